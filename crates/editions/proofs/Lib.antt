@@ -1,0 +1,4 @@
+mod Limited
+mod Terms
+mod ChordLaws
+mod Telling

@@ -1,0 +1,16 @@
+use Rattle.editions.specs.Iso.{iso-factor}
+use Rattle.editions.specs.Chords.{iso-chord-factor}
+use Rattle.editions.proofs.Telling.{strength-near, bare-tells, bare-fine}
+use Rattle.editions.proofs.iso.IsoEdition.tell.Needs as need
+
+pub returns : need.returns
+returns c =
+    let r = c .args .brace .now in
+    let q = c .args .ratios in
+    let k = c .args .kind in
+    let l = c .in-Some .ensures tt in
+    let n = strength-near (iso-chord-factor r q k) (c .in-Some .left) (c .iso-factor-f .ensures) (c .exact-q .ensures) (c .mul-z .ensures) l in
+    record {
+      tells = bare-tells iso-factor iso-chord-factor r q k (c .mul-z .result) (c .in-Some .left) l n (c .millionths .result) (c .millionths .ensures);
+      fine = bare-fine iso-factor iso-chord-factor r q k (c .mul-z .result) (c .in-Some .left) l n (c .millionths .result) (c .millionths .ensures);
+    }
