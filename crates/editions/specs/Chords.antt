@@ -11,15 +11,18 @@
 --     iso-weights k        w in thousandths, C1 and C2 for the kind k
 --     iso-chord-factor r q k    Qf by ISO
 --     Left f z             the chord is not spent, and z is its Qf
+--     ChordTold f a        the answer a is Qf, or none where the chord is spent
 --     Moderate, Split      what the steps of the computation promise one another
 --
 -- Qf is not cut at 1. Assumes nothing.
 use mathlib.Core.Path.{_≡_}
-use mathlib.Core.Bool.{Bool, false, cond}
+use mathlib.Core.Bool.{Bool, true, false, cond}
 use Prim.Native.Nat.{ℕ, _-_, _*_, _≤_}
 use lib.IntN.{ℤ, pos, _+ℤ_, _-ℤ_, _*ℤ_}
 use lib.Signed.{ltZ}
 use borrow.Author.Differences.{up, down}
+use Rattle.std.specs.declared.option.Option.{Option}
+use Rattle.std.specs.declared.option.Option.the-variants.{Some, None}
 use Rattle.powers.specs.declared.quotient.Quotient.{Quotient}
 use Rattle.powers.specs.Fractions.{Fraction, number}
 use Rattle.powers.specs.Enclosures.{Is}
@@ -108,6 +111,10 @@ pub record Left (f : ChordFactor) (z : Quotient) : Type 0 where
   pub is : Is (as-fraction f) z
   pub least : z .den ≤ 10 * z .num
   pub most : z .num ≤ 2 * z .den
+
+abbrev pub ChordTold : ChordFactor → Option Quotient → Type 0
+ChordTold f None = spent f ≡ true
+ChordTold f (Some z) = Left f z
 
 -- coefficients for which nothing overflows
 pub record Moderate (c : Coefficients) : Type 0 where

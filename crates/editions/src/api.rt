@@ -1,8 +1,6 @@
 // API RP 2A-WSD, 21st edition with Supplement 3.
 ghost use mathlib.Core.Path.{_≡_};
-ghost use mathlib.Core.Bool.{true};
-ghost use Rattle.std.specs.Options.{Cases as BySome};
-ghost use Rattle.editions.specs.Chords.{spent, Left, api-chord-factor};
+ghost use Rattle.editions.specs.Chords.{ChordTold, api-chord-factor};
 ghost use Rattle.editions.specs.Meanings.{api-meaning, Tells, Fine};
 use crate::api_factors::api_factor;
 use crate::chord::api_chord;
@@ -22,7 +20,7 @@ pub struct Api {}
 impl Api {
     // The chord's factor Qf, exact, or none where the chord is spent.
     pub fn chord_factor(&self, brace: &BraceRecord, ratios: Ratios, kind: Kind) -> Option<Quotient>
-        ensures { λ z. ⌜ BySome z (spent (api-chord-factor (now (brace .entry)) ratios kind) ≡ true) (λ z. Left (api-chord-factor (now (brace .entry)) ratios kind) z) ⌝ }
+        ensures { λ z. ⌜ ChordTold (api-chord-factor (now (brace .entry)) ratios kind) z ⌝ }
     {
         api_chord(brace, ratios, kind)
     }

@@ -3,9 +3,8 @@ ghost use mathlib.Core.Path.{_≡_};
 ghost use Prim.Native.Nat.{_*_, _<_, _≤_};
 ghost use Rattle.powers.specs.Formulas.{constant};
 ghost use Rattle.powers.specs.Enclosures.{Near, milli};
-ghost use Rattle.editions.specs.Signs.{apart, lap};
 ghost use Rattle.editions.specs.Factors.{Factor};
-ghost use Rattle.editions.specs.Rows.{api-gap-row};
+ghost use Rattle.editions.specs.Rows.{api-gap-row, ApiBetween};
 ghost use Rattle.editions.specs.Api.{api-factor, gapped, between, q-g};
 use crate::factors::overlap_value;
 use crate::factors::x_compression_factor;
@@ -49,8 +48,7 @@ fn gap_value(r: &BraceRecord) -> Ends
 }
 
 fn between_value(r: &BraceRecord) -> Ends
-    requires near { ⌜ 20 * apart (now r .gap) < now r .diameter ⌝ }
-    requires close { ⌜ 20 * lap (now r .gap) < now r .diameter ⌝ }
+    requires { ⌜ ApiBetween (now r) ⌝ }
     ensures { λ z. ⌜ Near z (between (now (r .entry))) (milli 334) (milli 24500) 100000 ⌝ }
 {
     let g = gap(r);

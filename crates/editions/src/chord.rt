@@ -1,11 +1,9 @@
 // The chord's factor Qf, exact.
 ghost use mathlib.Core.Path.{_≡_};
-ghost use mathlib.Core.Bool.{true};
 ghost use Prim.Native.Nat.{_+_, _*_, _≤_};
 ghost use borrow.Author.Differences.{up, down};
-ghost use Rattle.std.specs.Options.{Cases as BySome};
 ghost use Rattle.editions.specs.Rows.{above-nine-tenths};
-ghost use Rattle.editions.specs.Chords.{Moderate, ModerateWeights, Split, Left, spent, api-coefficients, x-coefficients, api-q-f, api-chord-factor, iso-weights, iso-q-f};
+ghost use Rattle.editions.specs.Chords.{Moderate, ModerateWeights, Split, ChordTold, api-coefficients, x-coefficients, api-q-f, api-chord-factor, iso-weights, iso-q-f};
 use crate::coefficients::Coefficients;
 use crate::coefficients::Signed;
 use crate::coefficients::Signs;
@@ -116,7 +114,7 @@ fn api_coefficients(r: &BraceRecord, kind: Kind) -> Coefficients
 
 fn with_coefficients(c: Coefficients, q: Ratios) -> Option<Quotient>
     requires { ⌜ Moderate c ⌝ }
-    ensures { λ r. ⌜ BySome r (spent (api-q-f c q) ≡ true) (λ z. Left (api-q-f c q) z) ⌝ }
+    ensures { λ r. ⌜ ChordTold (api-q-f c q) r ⌝ }
 {
     let s = signs(q);
     let rise = scaled(c.rise, s.tension)
@@ -142,7 +140,7 @@ fn with_coefficients(c: Coefficients, q: Ratios) -> Option<Quotient>
 
 // Qf by API, or none where the chord is spent.
 pub fn api_chord(r: &BraceRecord, q: Ratios, kind: Kind) -> Option<Quotient>
-    ensures { λ z. ⌜ BySome z (spent (api-chord-factor (now (r .entry)) q kind) ≡ true) (λ z. Left (api-chord-factor (now (r .entry)) q kind) z) ⌝ }
+    ensures { λ z. ⌜ ChordTold (api-chord-factor (now (r .entry)) q kind) z ⌝ }
 {
     let c = api_coefficients(r, kind);
     with_coefficients(c, q)
@@ -184,7 +182,7 @@ fn iso_weights(kind: Kind) -> Weights
 
 fn with_weights(c: Weights, q: Ratios) -> Option<Quotient>
     requires { ⌜ ModerateWeights c ⌝ }
-    ensures { λ z. ⌜ BySome z (spent (iso-q-f c q) ≡ true) (λ z. Left (iso-q-f c q) z) ⌝ }
+    ensures { λ z. ⌜ ChordTold (iso-q-f c q) z ⌝ }
 {
     let s = signs(q);
     let axial = square(s.tension + s.compression);
@@ -201,7 +199,7 @@ fn with_weights(c: Weights, q: Ratios) -> Option<Quotient>
 
 // Qf by ISO, or none where the chord is spent.
 pub fn iso_chord(q: Ratios, kind: Kind) -> Option<Quotient>
-    ensures { λ z. ⌜ BySome z (spent (iso-q-f (iso-weights kind) q) ≡ true) (λ z. Left (iso-q-f (iso-weights kind) q) z) ⌝ }
+    ensures { λ z. ⌜ ChordTold (iso-q-f (iso-weights kind) q) z ⌝ }
 {
     let c = iso_weights(kind);
     with_weights(c, q)

@@ -1,8 +1,6 @@
 // ISO 19902:2007.
 ghost use mathlib.Core.Path.{_≡_};
-ghost use mathlib.Core.Bool.{true};
-ghost use Rattle.std.specs.Options.{Cases as BySome};
-ghost use Rattle.editions.specs.Chords.{spent, Left, iso-chord-factor};
+ghost use Rattle.editions.specs.Chords.{ChordTold, iso-chord-factor};
 ghost use Rattle.editions.specs.Meanings.{iso-meaning, Tells, Fine};
 use crate::chord::iso_chord;
 use crate::edition::Edition;
@@ -22,7 +20,7 @@ pub struct Iso2007 {}
 impl Iso2007 {
     // The chord's factor Qf, exact, or none where the chord is spent.
     pub fn chord_factor(&self, _brace: &BraceRecord, ratios: Ratios, kind: Kind) -> Option<Quotient>
-        ensures { λ z. ⌜ BySome z (spent (iso-chord-factor (now («_brace» .entry)) ratios kind) ≡ true) (λ z. Left (iso-chord-factor (now («_brace» .entry)) ratios kind) z) ⌝ }
+        ensures { λ z. ⌜ ChordTold (iso-chord-factor (now («_brace» .entry)) ratios kind) z ⌝ }
     {
         iso_chord(ratios, kind)
     }

@@ -2,9 +2,8 @@
 ghost use mathlib.Core.Path.{_≡_};
 ghost use Prim.Native.Nat.{_*_, _<_, _≤_};
 ghost use Rattle.powers.specs.Enclosures.{Near, milli};
-ghost use Rattle.editions.specs.Signs.{apart, lap};
 ghost use Rattle.editions.specs.Factors.{Factor};
-ghost use Rattle.editions.specs.Rows.{iso-gap-row};
+ghost use Rattle.editions.specs.Rows.{iso-gap-row, IsoGap, IsoBetween};
 ghost use Rattle.editions.specs.Iso.{iso-factor, gapped, between, q-g, y-compression};
 use crate::factors::beta_factor;
 use crate::factors::gamma_root;
@@ -31,7 +30,7 @@ use powers::raise::power_below;
 use powers::roots::square_root;
 
 fn gap_value(r: &BraceRecord) -> Ends
-    requires { ⌜ now r .wall ≤ 5 * apart (now r .gap) ⌝ }
+    requires { ⌜ IsoGap (now r) ⌝ }
     ensures { λ z. ⌜ Near z (gapped (now (r .entry))) (milli 999) (milli 1800) 20 ⌝ }
 {
     let g = gap(r);
@@ -49,8 +48,7 @@ fn gap_value(r: &BraceRecord) -> Ends
 }
 
 fn between_value(r: &BraceRecord) -> Ends
-    requires near { ⌜ 5 * apart (now r .gap) < now r .wall ⌝ }
-    requires close { ⌜ 5 * lap (now r .gap) < now r .wall ⌝ }
+    requires { ⌜ IsoBetween (now r) ⌝ }
     ensures { λ z. ⌜ Near z (between (now (r .entry))) (milli 334) (milli 25000) 100000 ⌝ }
 {
     let g = gap(r);

@@ -1,9 +1,7 @@
 // Which row of the rules applies to a brace.
 ghost use mathlib.Core.Path.{_≡_};
-ghost use Prim.Native.Nat.{_*_, _<_, _≤_};
-ghost use Rattle.editions.specs.declared.rows.GapRow.the-variants.{Gap, Between, Overlap};
-ghost use Rattle.editions.specs.Signs.{apart, lap};
-ghost use Rattle.editions.specs.Rows.{above-six-tenths, above-nine-tenths, api-gap-row, iso-gap-row};
+ghost use Rattle.editions.specs.declared.rows.GapRow.the-variants.{Gap, Between};
+ghost use Rattle.editions.specs.Rows.{above-six-tenths, above-nine-tenths, api-gap-row, iso-gap-row, ApiBetween, IsoGap, IsoBetween};
 use crate::figures::gap;
 use crate::figures::overlap;
 use crate::record::BraceRecord;
@@ -33,7 +31,7 @@ pub fn beta_above_nine_tenths(r: &BraceRecord) -> bool
 // The row of API's gap factor.
 pub fn api_gap_row(r: &BraceRecord) -> GapRow
     ensures is { λ z. ⌜ z ≡ api-gap-row (now (r .entry)) ⌝ }
-    ensures between { λ z. ⌜ (z ≡ Between → (20 * apart (now (r .entry) .gap) < now (r .entry) .diameter) × (20 * lap (now (r .entry) .gap) < now (r .entry) .diameter)) ⌝ }
+    ensures between { λ z. ⌜ (z ≡ Between → ApiBetween (now (r .entry))) ⌝ }
 {
     if r.diameter <= 20 * gap(r) {
         return GapRow::Gap;
@@ -47,8 +45,8 @@ pub fn api_gap_row(r: &BraceRecord) -> GapRow
 // The row of ISO's gap factor.
 pub fn iso_gap_row(r: &BraceRecord) -> GapRow
     ensures is { λ z. ⌜ z ≡ iso-gap-row (now (r .entry)) ⌝ }
-    ensures gap { λ z. ⌜ (z ≡ Gap → now (r .entry) .wall ≤ 5 * apart (now (r .entry) .gap)) ⌝ }
-    ensures between { λ z. ⌜ (z ≡ Between → (5 * apart (now (r .entry) .gap) < now (r .entry) .wall) × (5 * lap (now (r .entry) .gap) < now (r .entry) .wall)) ⌝ }
+    ensures gap { λ z. ⌜ (z ≡ Gap → IsoGap (now (r .entry))) ⌝ }
+    ensures between { λ z. ⌜ (z ≡ Between → IsoBetween (now (r .entry))) ⌝ }
 {
     if r.wall <= 5 * gap(r) {
         return GapRow::Gap;

@@ -109,7 +109,12 @@ mod tests {
     #[test]
     fn x_tension_is_18_4_by_both_editions() -> Result<(), Fail> {
         check(tells(&Api {}, unloaded(400, 80, 320), Kind::XTension, 18400000))?;
-        check(tells(&Iso2007 {}, unloaded(400, 80, 320), Kind::XTension, 18400000))
+        check(tells(
+            &Iso2007 {},
+            unloaded(400, 80, 320),
+            Kind::XTension,
+            18400000,
+        ))
     }
 
     #[test]
@@ -121,13 +126,28 @@ mod tests {
             11400000,
         ))?;
         check(tells(&Iso2007 {}, unloaded(400, 80, 320), Kind::InPlane, 18000000))?;
-        check(tells(&Iso2007 {}, unloaded(400, 80, 400), Kind::OutOfPlane, 16000000))
+        check(tells(
+            &Iso2007 {},
+            unloaded(400, 80, 400),
+            Kind::OutOfPlane,
+            16000000,
+        ))
     }
 
     #[test]
     fn api_y_compression_is_38_8_from_gamma_20_on() -> Result<(), Fail> {
-        check(tells(&Api {}, unloaded(400, 100, 400), Kind::YCompression, 38800000))?;
-        check(tells(&Api {}, unloaded(600, 60, 600), Kind::YCompression, 38800000))
+        check(tells(
+            &Api {},
+            unloaded(400, 100, 400),
+            Kind::YCompression,
+            38800000,
+        ))?;
+        check(tells(
+            &Api {},
+            unloaded(600, 60, 600),
+            Kind::YCompression,
+            38800000,
+        ))
     }
 
     // At β = 1 and γ = 20 the K factor is 40 times the gap factor.
@@ -236,8 +256,18 @@ mod tests {
     // Qβ is 1 at β = 0.6 and 0.3 / (0.601 × (1 − 0.833 × 0.601)) just above it.
     #[test]
     fn q_beta_jumps_above_six_tenths() -> Result<(), Fail> {
-        check(tells(&Api {}, unloaded(1000, 400, 600), Kind::XCompression, 10750000))?;
-        check(tells(&Api {}, unloaded(1000, 400, 601), Kind::XCompression, 10758962))
+        check(tells(
+            &Api {},
+            unloaded(1000, 400, 600),
+            Kind::XCompression,
+            10750000,
+        ))?;
+        check(tells(
+            &Api {},
+            unloaded(1000, 400, 601),
+            Kind::XCompression,
+            10758962,
+        ))
     }
 
     #[test]
