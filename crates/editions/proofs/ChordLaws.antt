@@ -1,9 +1,8 @@
 -- The chord's factor as it is computed, in two sums without a sign, is the factor as it is written.
 use mathlib.Core.Path.{_≡_, ap, sym, _∙_}
-use mathlib.Core.Bool.{Bool, true, false}
+use mathlib.Core.Bool.{true, false}
 use Prim.Native.Nat.{ℕ, suc, _+_, _-_, _*_, _≤_, _<_}
 use lib.IntN.{ℤ, pos, negsuc, _+ℤ_, _-ℤ_, _*ℤ_}
-use lib.Signed.{ltZ}
 use native.Mathlib.Omega.{arith}
 use borrow.Author.Differences.{up, down, ints}
 use Rattle.editions.specs.declared.coefficients.Coefficients.{Coefficients}

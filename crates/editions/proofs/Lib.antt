@@ -2,3 +2,5 @@ mod Limited
 mod Terms
 mod ChordLaws
 mod Telling
+mod Layering
+mod PileLaws

@@ -1,7 +1,5 @@
 -- From the ends of a factor to what an edition tells, once for every table of formulas.
-use mathlib.Core.Path.{_≡_}
-use mathlib.Core.Bool.{Bool, true, false}
-use Prim.Native.Nat.{ℕ, _+_, _-_, _*_, _/_, _^_, _<_, _≤_}
+use Prim.Native.Nat.{ℕ, _+_, _-_, _*_, _^_, _≤_}
 use native.Mathlib.Omega.{arith}
 use Rattle.powers.specs.declared.ends.Ends.{Ends}
 use Rattle.powers.specs.declared.quotient.Quotient.{Quotient}
@@ -16,7 +14,7 @@ use Rattle.editions.specs.declared.strength.Strength.the-variants.{Spent}
 use Rattle.editions.specs.declared.strength.Strength.the-variants.{Ends as Told}
 use Rattle.editions.specs.Factors.{Factor}
 use Rattle.editions.specs.Chords.{ChordFactor, as-fraction, Left}
-use Rattle.editions.specs.Meanings.{Meaning, Lawful, Enclosed, Tells, Millionths, Fine, millionths, bare, bare-strength}
+use Rattle.editions.specs.Meanings.{Lawful, Tells, Millionths, Fine, millionths, bare, bare-strength}
 
 -- a factor times Qf
 pub strength-near : {f y z : Ends} {φ : Formula} (c : ChordFactor) (w : Quotient) → Factor f φ → Exact w y → Product f y z → Left c w → Near z (φ ⊗ constant (as-fraction c)) (milli 133) (milli 1999000) 950000

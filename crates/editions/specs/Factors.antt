@@ -9,11 +9,11 @@
 --
 -- That these rows are those of the printed standards is not proved: docs/RULES.md has them to compare. Assumes nothing.
 use mathlib.Core.Bool.{cond}
-use Prim.Native.Nat.{ℕ, _*_, _-_, _<_}
+use Prim.Native.Nat.{_*_, _-_, _<_}
 use native.Mathlib.Nat.{mul-pos}
 use native.Mathlib.Omega.{arith}
 use Rattle.powers.specs.declared.ends.Ends.{Ends}
-use Rattle.powers.specs.Fractions.{Fraction, Positive, number, positive-of, _+ᶠ_, _−ᶠ_, _*ᶠ_, _÷_}
+use Rattle.powers.specs.Fractions.{Fraction, number, positive-of, _+ᶠ_, _−ᶠ_, _*ᶠ_, _÷_}
 use Rattle.powers.specs.Formulas.{Formula, constant, power, _⊕_, _⊗_}
 use Rattle.powers.specs.Enclosures.{Near, milli}
 use Rattle.editions.specs.declared.record.BraceRecord.{BraceRecord}

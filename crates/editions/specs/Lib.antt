@@ -8,4 +8,8 @@ pub mod Api
 pub mod Iso
 pub mod Chords
 pub mod Meanings
+pub mod Layers
 pub mod Names
+pub mod Refusals
+pub mod Piles
+pub mod PileMeanings

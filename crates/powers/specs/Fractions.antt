@@ -9,7 +9,7 @@
 --     f +ᶠ g, f *ᶠ g       the sum and the product
 --     f −ᶠ g               the difference, 0 where g is the greater
 --     f ^ᶠ n               the power
---     f ÷ p                f divided by a positive fraction
+--     f ÷ p, p ÷⁺ q        a fraction divided by a positive one; a positive one divided by a positive one
 --     f at-most g          the lesser of the two
 --
 -- Assumes nothing.
@@ -25,6 +25,7 @@ infixl 60 _+ᶠ_
 infixl 60 _−ᶠ_
 infixl 70 _*ᶠ_
 infixl 70 _÷_
+infixl 70 _÷⁺_
 infixr 80 _^ᶠ_
 pub record Fraction : Type 0 where
   pub num : ℕ
@@ -71,6 +72,9 @@ f ^ᶠ n = quotient (f .num ^ n) (f .den ^ n) (one-le-pow n (f .den) (den-positi
 
 abbrev pub _÷_ : Fraction → Positive → Fraction
 f ÷ p = quotient (f .num * p .value .den) (f .den * p .value .num) (mul-pos (den-positive f) (num-positive p))
+
+abbrev pub _÷⁺_ : Positive → Positive → Positive
+p ÷⁺ q = positive-of (p .value ÷ q) (mul-pos (num-positive p) (den-positive (q .value)))
 
 abbrev pub _at-most_ : Fraction → Fraction → Fraction
 f at-most g = cond (leb (f .num * g .den) (g .num * f .den)) f g

@@ -1,9 +1,8 @@
 use borrow.Author.Needs.{needs}
 use native.Mathlib.Omega.{arith}
 use lib.Dec.{lit≤}
-use lib.IntN.{pos, negℤ, _*ℤ_}
-use mir.Syntax.{w64, w128}
-use mir.Val.{SFits, toZ}
+use mir.Syntax.{w64}
+use mir.Val.{SFits}
 use Rattle.std.proofs.shelf.Signed.{toZ-ofZ}
 use Rattle.editions.proofs.Limited.{wide, wide-times, natural-wide, multiples-fit}
 use Rattle.editions.proofs.limits.brace_outside.Needs as need

@@ -1,8 +1,7 @@
 use borrow.Author.Needs.{needs}
 use lib.Dec.{lit≤}
-use lib.IntN.{pos, negℤ, _*ℤ_}
-use mir.Syntax.{w64, w128}
-use mir.Val.{SFits, toZ}
+use mir.Syntax.{w64}
+use mir.Val.{SFits}
 use Rattle.std.proofs.shelf.Signed.{toZ-ofZ}
 use Rattle.editions.proofs.Limited.{wide, wide-times}
 use Rattle.editions.proofs.limits.chord_outside.Needs as need

@@ -1,7 +1,7 @@
-use mathlib.Core.Path.{_≡_, sym, _∙_}
+use mathlib.Core.Path.{sym, _∙_}
 use Rattle.std.proofs.shelf.Lists.{at-drop-more, at-drop-all}
 use Rattle.std.proofs.shelf.Tests.{cond-true, cond-false}
-use Rattle.editions.specs.Limits.{first-outside, outside}
+use Rattle.editions.specs.Limits.{first-outside}
 use Rattle.editions.proofs.limits.first_outside.Needs as need
 
 pub returns-then-is-outside : need.returns-then-is-outside

@@ -1,7 +1,7 @@
 use borrow.Author.Needs.{needs}
 use borrow.Author.Differences.{ints}
 use native.Mathlib.Omega.{arith}
-use mathlib.Core.Path.{_≡_, sym, _∙_, refl, ap}
+use mathlib.Core.Path.{_≡_, sym, _∙_, refl}
 use Prim.Native.Nat.{_≤_, _*_}
 use lib.IntN.{pos, natAbs, _+ℤ_}
 use lib.Signed.{_≤ℤ_}
@@ -10,7 +10,7 @@ use mir.Val.{SFits, toZ, ofZ}
 use Rattle.std.proofs.shelf.Signed.{toZ-ofZ}
 use Rattle.std.specs.declared.option.Option.the-variants.{None}
 use Rattle.editions.specs.Signs.{apart, lap}
-use Rattle.editions.specs.Limits.{first-outside, brace-limits, fault-of, shares-sum}
+use Rattle.editions.specs.Limits.{first-outside, brace-limits, shares-sum}
 use Rattle.editions.proofs.Limited.{Holding, held, natural, casts, thousand, not-thousand, bits-thousand, thousand-bits, shares-make, natural-in, gap-in}
 use Rattle.editions.proofs.record.BraceRecord.new.Needs as need
 use Rattle.editions.proofs.record.BraceRecord.new.Needs.{In-rest}

@@ -3,7 +3,6 @@ use borrow.Author.Differences.{ints}
 use native.Mathlib.Omega.{arith}
 use mathlib.Core.Path.{_≡_, sym, _∙_}
 use lib.IntN.{pos, natAbs}
-use lib.Signed.{_≤ℤ_}
 use mir.Syntax.{w64}
 use mir.Val.{SFits, toZ, ofZ}
 use Rattle.editions.specs.Limits.{chord-limits}
