@@ -1,16 +1,21 @@
 -- What the program tells of a strength.
 --
---     told-by code r q k s    s is what the edition of that code tells
+--     pile-by code j         the pile of a joint for a code
+--     ToldBy code j k s      s is what that pile tells of the joint's brace, ratios and the kind k
 --
 -- Assumes nothing.
 use Rattle.strengths.specs.declared.row.Code.{Code}
 use Rattle.strengths.specs.declared.row.Code.the-variants.{Iso, Api}
+use Rattle.strengths.specs.declared.line.Joint.{Joint}
 use Rattle.editions.specs.declared.kind.Kind.{Kind}
-use Rattle.editions.specs.declared.ratios.Ratios.{Ratios}
-use Rattle.editions.specs.declared.record.BraceRecord.{BraceRecord}
+use Rattle.editions.specs.declared.pile.Pile.{Pile}
 use Rattle.editions.specs.declared.strength.Strength.{Strength}
-use Rattle.editions.specs.Meanings.{Tells, api-meaning, iso-meaning}
+use Rattle.editions.specs.Meanings.{Tells}
+use Rattle.editions.specs.PileMeanings.{pile-meaning}
 
-abbrev pub told-by : Code → BraceRecord → Ratios → Kind → Strength → Type 0
-told-by Iso r q k s = Tells iso-meaning r q k s
-told-by Api r q k s = Tells api-meaning r q k s
+abbrev pub pile-by : Code → Joint → Pile
+pile-by Iso j = j .iso
+pile-by Api j = j .api
+
+abbrev pub ToldBy : Code → Joint → Kind → Strength → Type 0
+ToldBy code j k s = Tells (pile-meaning (pile-by code j)) (j .brace) (j .ratios) k s

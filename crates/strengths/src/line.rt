@@ -1,18 +1,25 @@
-// One line of input: thirteen whole numbers that describe a joint.
+// One line of input: thirteen whole numbers that describe a joint, and up to two that name layers over both editions.
 use editions::limits::BraceFigures;
 use editions::limits::ChordFigures;
 use editions::limits::Figure;
 use editions::limits::Misfit;
 use editions::limits::RatioFigures;
+use editions::naming::PileFigures;
+use editions::pile::Pile;
+use editions::pile_fault::PileFault;
 use editions::ratios::Ratios;
 use editions::record::BraceRecord;
 use editions::record::Chord;
 use std::fmt;
 
-#[derive(Clone, Copy)]
+#[derive(Drop)]
 pub struct Joint {
     pub brace: BraceRecord,
     pub ratios: Ratios,
+    pub c: i64,
+    pub can: i64,
+    pub iso: Pile,
+    pub api: Pile,
 }
 
 // What is wrong with a line; fields count from 1.
@@ -23,6 +30,7 @@ pub enum Fault {
     NotNumber(usize),
     Outside(Figure),
     SharesSum(i64),
+    NoLayers(PileFault),
 }
 
 pub impl From<Figure> for Fault as FaultFromFigure {
@@ -40,12 +48,20 @@ pub impl From<Misfit> for Fault as FaultFromMisfit {
     }
 }
 
-fn numbers(text: &str) -> Result<[i64; 13], Fault> {
-    let mut values = [0i64; 13];
+pub impl From<PileFault> for Fault as FaultFromPile {
+    fn from(fault: PileFault) -> Fault {
+        Fault::NoLayers(fault)
+    }
+}
+
+// The numbers of a line. Where it has no fourteenth there is no divisor, and where it has no fifteenth no can.
+fn numbers(text: &str) -> Result<[i64; 15], Fault> {
+    let mut values = [0i64; 15];
+    values[13] = 100;
     let mut count: usize = 0;
     let mut bad: usize = 0;
     for word in text.split_whitespace() {
-        if count < 13 {
+        if count < 15 {
             match word.parse::<i64>() {
                 Ok(value) => values[count] = value,
                 Err(_) => {
@@ -57,7 +73,7 @@ fn numbers(text: &str) -> Result<[i64; 13], Fault> {
         }
         count = count.saturating_add(1);
     }
-    if count != 13 {
+    if count < 13 || count > 15 {
         return Err(Fault::Count(count));
     }
     if bad != 0 {
@@ -67,7 +83,7 @@ fn numbers(text: &str) -> Result<[i64; 13], Fault> {
 }
 
 // Strengths do not depend on the class shares: all is taken as X.
-fn described(n: [i64; 13]) -> Result<Joint, Fault> {
+fn described(n: [i64; 15]) -> Result<Joint, Fault> {
     let chord = Chord::new(ChordFigures {
         diameter: n[0],
         wall: n[1],
@@ -91,7 +107,24 @@ fn described(n: [i64; 13]) -> Result<Joint, Fault> {
         mi: n[11],
         mo: n[12],
     })?;
-    Ok(Joint { brace, ratios })
+    let iso = Pile::of(PileFigures {
+        edition: 1,
+        c: n[13],
+        can: n[14],
+    })?;
+    let api = Pile::of(PileFigures {
+        edition: 2,
+        c: n[13],
+        can: n[14],
+    })?;
+    Ok(Joint {
+        brace,
+        ratios,
+        c: n[13],
+        can: n[14],
+        iso,
+        api,
+    })
 }
 
 pub fn read_joint(bytes: &[u8]) -> Result<Joint, Fault> {
@@ -128,12 +161,14 @@ pub impl fmt::Display for Fault as FaultDisplay {
     fn fmt<W: fmt::Write>(&self, f: &mut fmt::Formatter<W>) -> fmt::Result {
         match self {
             Fault::NotText => write!(f, "not text"),
-            Fault::Count(count) => write!(f, "{count} numbers, where 13 are wanted"),
+            Fault::Count(count) => write!(f, "{count} numbers, where 13 to 15 are wanted"),
             Fault::NotNumber(field) => write!(f, "field {field} is no whole number"),
             Fault::Outside(figure) => {
                 let (place, name) = field(*figure);
                 write!(f, "field {place}, {name}, is outside its limits")
             }
+            Fault::NoLayers(PileFault::Divisor) => write!(f, "field 14, c, is outside its limits"),
+            Fault::NoLayers(_) => write!(f, "field 15, can, is outside its limits"),
             Fault::SharesSum(sum) => write!(f, "the shares sum to {sum}"),
         }
     }

@@ -1,6 +1,6 @@
 // What is printed of a joint.
 ghost use mathlib.Core.Path.{_≡_};
-ghost use Rattle.strengths.specs.Codes.{told-by};
+ghost use Rattle.strengths.specs.Codes.{ToldBy};
 use crate::line::Joint;
 use crate::row::Code;
 use crate::row::Row;
@@ -12,6 +12,7 @@ use editions::edition::Edition;
 use editions::iso::Iso2007;
 use editions::iso::IsoEdition;
 use editions::kind::Kind;
+use editions::pile::PileEdition;
 use editions::ratios::Ratios;
 use editions::record::BraceRecord;
 use editions::strength::Strength;
@@ -41,12 +42,12 @@ fn name(kind: Kind) -> &'static str {
     }
 }
 
-fn tell(code: Code, brace: &BraceRecord, ratios: Ratios, kind: Kind) -> Strength
-    ensures { λ r. ⌜ told-by code (now (brace .entry)) ratios kind r ⌝ }
+fn tell(code: Code, joint: &Joint, kind: Kind) -> Strength
+    ensures { λ r. ⌜ ToldBy code (now (joint .entry)) kind r ⌝ }
 {
     match code {
-        Code::Iso => Iso2007 {}.tell(brace, ratios, kind),
-        Code::Api => Api {}.tell(brace, ratios, kind),
+        Code::Iso => joint.iso.tell(&joint.brace, joint.ratios, kind),
+        Code::Api => joint.api.tell(&joint.brace, joint.ratios, kind),
     }
 }
 
@@ -89,7 +90,7 @@ fn print_kind(rt: &LibcRuntime, code: Code, joint: &Joint, kind: Kind) -> Result
     let num = q.num;
     let den = q.den;
     print!(rt, "  {name:<13}  {row}  Qf {num}/{den}")?;
-    match tell(code, &joint.brace, joint.ratios, kind) {
+    match tell(code, joint, kind) {
         Strength::Spent => println!(rt, "  SPENT")?,
         Strength::Ends { low, high } => {
             let ppm = width(low, high);
@@ -134,7 +135,11 @@ pub fn print_joint(rt: &LibcRuntime, line: u64, joint: &Joint) -> Result<(), Any
         r.gap,
         r.can.length
     )?;
-    println!(rt, "  p {} mi {} mo {}", q.p, q.mi, q.mo)?;
+    println!(
+        rt,
+        "  p {} mi {} mo {}  c {} can {}",
+        q.p, q.mi, q.mo, joint.c, joint.can
+    )?;
     print_code(rt, Code::Iso, joint)?;
     print_code(rt, Code::Api, joint)
 }

@@ -7,6 +7,10 @@ mod tests {
     use crate::rows::LIMITS;
     use editions::api::Api;
     use editions::api::ApiEdition;
+    use editions::can::Can;
+    use editions::can::CanEdition;
+    use editions::dividing::DivisorEdition;
+    use editions::divisor::Divisor;
     use editions::edition::Edition;
     use editions::iso::Iso2007;
     use editions::iso::IsoEdition;
@@ -17,6 +21,9 @@ mod tests {
     use editions::limits::Misfit;
     use editions::limits::RatioFigures;
     use editions::names::edition_number;
+    use editions::naming::PileFigures;
+    use editions::pile::Pile;
+    use editions::pile::PileEdition;
     use editions::ratios::Ratios;
     use editions::record::BraceRecord;
     use editions::record::Chord;
@@ -268,6 +275,142 @@ mod tests {
             Kind::XCompression,
             10758962,
         ))
+    }
+
+    // D 400, T 80, Tn 40, Lc 500.
+    fn short_can(brace: i64) -> Option<BraceRecord> {
+        let Ok(chord) = Chord::new(ChordFigures {
+            diameter: 400,
+            wall: 80,
+            nominal: 40,
+            fy: 350,
+        }) else {
+            return None;
+        };
+        let figures = BraceFigures {
+            brace,
+            thickness: 80,
+            fyb: 350,
+            sine: 1000000,
+            gap: 50,
+            length: 500,
+            k: 0,
+            y: 0,
+            x: 1000,
+        };
+        let Ok(brace) = BraceRecord::new(chord, figures) else {
+            return None;
+        };
+        Some(brace)
+    }
+
+    // The strength is `value` millionths, within two units.
+    fn told<E: Edition>(edition: &E, brace: i64, kind: Kind, value: u64) -> bool {
+        let Some(record) = short_can(brace) else {
+            return false;
+        };
+        let Ok(ratios) = Ratios::new(RatioFigures { p: 0, mi: 0, mo: 0 }) else {
+            return false;
+        };
+        match edition.tell(&record, ratios, kind) {
+            Strength::Spent => false,
+            Strength::Ends { low, high } => low <= value
+                && value <= high
+                && high.saturating_sub(low) <= 2,
+        }
+    }
+
+    // k is 0.625 at d 200 and 0.875 at d 400, of Y tensions of 15 and 30; K and the moments keep their strengths.
+    #[test]
+    fn a_short_can_takes_its_part_of_y_and_x() -> Result<(), Fail> {
+        let can = Can { below: Iso2007 {} };
+        check(told(&can, 200, Kind::YTension, 9375000))?;
+        check(told(&can, 400, Kind::YTension, 26250000))?;
+        check(told(&can, 200, Kind::XTension, 7187500))?;
+        check(told(&can, 320, Kind::InPlane, 18000000))?;
+        check(told(&can, 400, Kind::OutOfPlane, 16000000))
+    }
+
+    #[test]
+    fn a_divisor_divides_and_refuses_outside_100_to_200() -> Result<(), Fail> {
+        match Divisor::new(Iso2007 {}, 125) {
+            Ok(divisor) => check(
+                told(&divisor, 320, Kind::YTension, 19200000)
+                    && told(&divisor, 320, Kind::InPlane, 14400000),
+            )?,
+            Err(_) => return check(false),
+        }
+        check(Divisor::new(Api {}, 100).is_ok() && Divisor::new(Api {}, 200).is_ok())?;
+        check(
+            Divisor::new(Api {}, 99).is_err()
+                && Divisor::new(Api {}, 201).is_err()
+                && Divisor::new(Api {}, -9223372036854775808).is_err(),
+        )?;
+        match Divisor::new(Api {}, 201) {
+            Ok(_) => check(false),
+            Err(refused) => check(refused.fault.number() == 7 && refused.fault.field() == 3),
+        }
+    }
+
+    fn four_cans() -> Can<Can<Can<Can<Api>>>> {
+        Can {
+            below: Can {
+                below: Can {
+                    below: Can { below: Api {} },
+                },
+            },
+        }
+    }
+
+    // Three layers are 1,000 wide, two cans have a floor of 6,250, and ten layers neither pass a million nor fall below 0.
+    #[test]
+    fn stacks_add_up_their_widths_and_floors() -> Result<(), Fail> {
+        check(
+            Can {
+                below: Can {
+                    below: Can { below: Api {} },
+                },
+            }.width()
+                == 1000,
+        )?;
+        check(
+            Can {
+                below: Can { below: Iso2007 {} },
+            }.floor()
+                == 6250,
+        )?;
+        let ten = Can {
+            below: Can {
+                below: Can {
+                    below: Can {
+                        below: Can {
+                            below: Can { below: four_cans() },
+                        },
+                    },
+                },
+            },
+        };
+        check(ten.width() == 3100 && ten.floor() == 0)
+    }
+
+    // What comes of the numbers of a pile: its width and its floor, or the field that a refusal names.
+    fn named(edition: i64, c: i64, can: i64) -> (u64, u64) {
+        match Pile::of(PileFigures { edition, c, can }) {
+            Ok(pile) => (pile.width(), pile.floor()),
+            Err(fault) => (fault.number() as u64, fault.field() as u64),
+        }
+    }
+
+    #[test]
+    fn numbers_name_piles() -> Result<(), Fail> {
+        check(named(1, 100, 0) == (100, 100000) && named(2, 100, 0) == (100, 100000))?;
+        check(named(1, 100, 1) == (400, 25000) && named(2, 101, 0) == (400, 50000))?;
+        check(named(2, 200, 1) == (700, 12500))?;
+        check(
+            named(0, 99, 2) == (7, 2) && named(3, 100, 0) == (7, 2) && named(-1, 100, 0) == (7, 2),
+        )?;
+        check(named(1, 99, 2) == (7, 3) && named(2, 201, 0) == (7, 3))?;
+        check(named(1, 100, 2) == (7, 4) && named(2, 200, -1) == (7, 4))
     }
 
     #[test]
