@@ -14,18 +14,10 @@ use crate::iso::Iso2007;
 use crate::pile::Pile;
 use crate::pile_fault::PileFault;
 
-// The three numbers: the edition, the divisor in hundredths (100 for none) and the can (0 or 1).
-#[derive(Clone, Copy)]
-pub struct PileFigures {
-    pub edition: i64,
-    pub c: i64,
-    pub can: i64,
-}
-
-fn bare(f: PileFigures) -> Option<Bare>
-    ensures { λ r. ⌜ BySome r (outside (pos 1) (f .edition) (pos 2) ≡ true) (λ b. BareNamed b (f .edition)) ⌝ }
+fn bare(edition: i64) -> Option<Bare>
+    ensures { λ r. ⌜ BySome r (outside (pos 1) edition (pos 2) ≡ true) (λ b. BareNamed b edition) ⌝ }
 {
-    match f.edition {
+    match edition {
         1 => Some(Bare::Iso(Iso2007 {})),
         2 => Some(Bare::Api(Api {})),
         _ => None,
@@ -34,32 +26,35 @@ fn bare(f: PileFigures) -> Option<Bare>
 
 impl Pile {
     // The pile that the numbers name, or the first number that names none. A divisor of 100 builds no layer.
-    pub fn of(f: PileFigures) -> Result<Pile, PileFault>
-        ensures fault { λ r. ⌜ Cases r (λ _. pile-fault f ≡ None) (λ e. pile-fault f ≡ Some e) ⌝ }
-        ensures is { λ r. ⌜ Cases r (λ p. PileNamed p f) (λ _. Unit {0}) ⌝ }
+    pub fn of(edition: i64, c: i64, can: i64) -> Result<Pile, PileFault>
+        ensures fault { λ r. ⌜ Cases r (λ _. pile-fault edition c can ≡ None) (λ e. pile-fault edition c can ≡ Some e) ⌝ }
+        ensures is { λ r. ⌜ Cases r (λ p. PileNamed p edition c can) (λ _. Unit {0}) ⌝ }
     {
-        let Some(edition) = bare(f) else {
+        let Some(below) = bare(edition) else {
             return Err(PileFault::Edition);
         };
-        if f.c < 100 || f.c > 200 {
+        if c < 100 || c > 200 {
             return Err(PileFault::Divisor);
         }
-        if f.can < 0 || f.can > 1 {
+        if can < 0 || can > 1 {
             return Err(PileFault::Can);
         }
-        if f.c == 100 && f.can == 0 {
-            return Ok(Pile::Plain(edition));
+        if c == 100 && can == 0 {
+            return Ok(Pile::Plain(below));
         }
-        if f.c == 100 {
-            return Ok(Pile::Canned(Can { below: edition }));
+        if c == 100 {
+            return Ok(Pile::Canned(Can { below }));
         }
-        let c = f.c as u64;
-        if f.can == 0 {
-            return Ok(Pile::Divided(Divisor { below: edition, c }));
+        let hundredths = c as u64;
+        if can == 0 {
+            return Ok(Pile::Divided(Divisor {
+                below,
+                c: hundredths,
+            }));
         }
         Ok(Pile::CannedDivided(Divisor {
-            below: Can { below: edition },
-            c,
+            below: Can { below },
+            c: hundredths,
         }))
     }
 }

@@ -4,7 +4,6 @@ use editions::limits::ChordFigures;
 use editions::limits::Figure;
 use editions::limits::Misfit;
 use editions::limits::RatioFigures;
-use editions::naming::PileFigures;
 use editions::pile::Pile;
 use editions::pile_fault::PileFault;
 use editions::ratios::Ratios;
@@ -107,16 +106,8 @@ fn described(n: [i64; 15]) -> Result<Joint, Fault> {
         mi: n[11],
         mo: n[12],
     })?;
-    let iso = Pile::of(PileFigures {
-        edition: 1,
-        c: n[13],
-        can: n[14],
-    })?;
-    let api = Pile::of(PileFigures {
-        edition: 2,
-        c: n[13],
-        can: n[14],
-    })?;
+    let iso = Pile::of(1, n[13], n[14])?;
+    let api = Pile::of(2, n[13], n[14])?;
     Ok(Joint {
         brace,
         ratios,

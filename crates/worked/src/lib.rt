@@ -21,7 +21,6 @@ mod tests {
     use editions::limits::Misfit;
     use editions::limits::RatioFigures;
     use editions::names::edition_number;
-    use editions::naming::PileFigures;
     use editions::pile::Pile;
     use editions::pile::PileEdition;
     use editions::ratios::Ratios;
@@ -395,7 +394,7 @@ mod tests {
 
     // What comes of the numbers of a pile: its width and its floor, or the field that a refusal names.
     fn named(edition: i64, c: i64, can: i64) -> (u64, u64) {
-        match Pile::of(PileFigures { edition, c, can }) {
+        match Pile::of(edition, c, can) {
             Ok(pile) => (pile.width(), pile.floor()),
             Err(fault) => (fault.number() as u64, fault.field() as u64),
         }
