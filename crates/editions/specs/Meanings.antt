@@ -8,7 +8,7 @@
 --     Enclosed m .. l h    l and h millionths are the ends of the strength: l is 0 or not above, h is not below
 --     Tells m .. s         s is what an edition of this meaning tells
 --     bare-strength, bare  the meaning of an edition that is a table of factors and one of chord factors: strength = factor times Qf
---     Fine l h             the ends are at most 1 part in a million and 3 millionths apart
+--     Fine s               the ends of the told strength s are at most 1 part in a million and 3 millionths apart
 --
 -- Assumes nothing.
 use mathlib.Core.Path.{_≡_}
@@ -81,7 +81,7 @@ iso-meaning = bare iso-factor iso-chord-factor
 
 abbrev pub Fine : Strength → Type 0
 Fine Spent = Unit {0}
-Fine (Told low high) = (high - low) * 1000000 ≤ low * 1 + 3000000
+Fine (Told low high) = (high - low) * 1000000 ≤ low + 3000000
 
 -- Ends in units are told in millionths, the lower one rounded down and the upper one up.
 abbrev pub Millionths : Ends → Strength → Type 0

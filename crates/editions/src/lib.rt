@@ -20,6 +20,7 @@ pub mod pile;
 pub mod pile_fault;
 pub mod ratios;
 pub mod record;
+pub mod refusals;
 pub mod rows;
 mod scale;
 pub mod strength;
