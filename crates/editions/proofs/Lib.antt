@@ -4,3 +4,4 @@ mod ChordLaws
 mod Telling
 mod Layering
 mod PileLaws
+pub mod Laws

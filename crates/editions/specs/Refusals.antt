@@ -2,7 +2,7 @@
 --
 --     pile-number f      the number of a refusal for a pile's figure
 --     pile-field f       the field that it names: 2 the edition, 3 the divisor, 4 the can
---     figure-number x    the number of a refusal for a figure outside its limits: 7 the chord's, 8 the brace's, 10 the ratios
+--     figure-number x    the number of a refusal for a figure outside its limits: 7 the chord's, 8 the brace's, 10 the force's
 --     figure-field x     its field on a card, the word being 1
 --     misfit-number m    the number of a refusal for what makes no brace record: 8 for a figure, 9 for the sum of the shares
 --     misfit-value m     its value: the field, or the sum
@@ -11,7 +11,7 @@
 use Prim.Native.Nat.{ℕ}
 use lib.IntN.{ℤ, pos}
 use Rattle.editions.specs.declared.limits.Figure.{Figure}
-use Rattle.editions.specs.declared.limits.Figure.the-variants.{ChordDiameter, ChordWall, NominalWall, ChordYield, BraceDiameter, BraceWall, BraceYield, Sine, Gap, CanLength, ShareK, ShareY, ShareX, AxialRatio, InPlaneRatio, OutOfPlaneRatio}
+use Rattle.editions.specs.declared.limits.Figure.the-variants.{ChordDiameter, ChordWall, NominalWall, ChordYield, BraceDiameter, BraceWall, BraceYield, Sine, Gap, CanLength, ShareK, ShareY, ShareX, AxialForce, InPlaneMoment, OutOfPlaneMoment, AxialRatio, InPlaneRatio, OutOfPlaneRatio}
 use Rattle.editions.specs.declared.limits.Misfit.{Misfit}
 use Rattle.editions.specs.declared.limits.Misfit.the-variants.{Outside, SharesSum}
 use Rattle.editions.specs.declared.pile_fault.PileFault.{PileFault}
@@ -41,6 +41,9 @@ figure-number CanLength = 8
 figure-number ShareK = 8
 figure-number ShareY = 8
 figure-number ShareX = 8
+figure-number AxialForce = 10
+figure-number InPlaneMoment = 10
+figure-number OutOfPlaneMoment = 10
 figure-number AxialRatio = 10
 figure-number InPlaneRatio = 10
 figure-number OutOfPlaneRatio = 10
@@ -59,6 +62,9 @@ figure-field CanLength = 9
 figure-field ShareK = 10
 figure-field ShareY = 11
 figure-field ShareX = 12
+figure-field AxialForce = 4
+figure-field InPlaneMoment = 5
+figure-field OutOfPlaneMoment = 6
 figure-field AxialRatio = 7
 figure-field InPlaneRatio = 8
 figure-field OutOfPlaneRatio = 9

@@ -53,6 +53,9 @@ pub enum Figure {
     ShareK,
     ShareY,
     ShareX,
+    AxialForce,
+    InPlaneMoment,
+    OutOfPlaneMoment,
     AxialRatio,
     InPlaneRatio,
     OutOfPlaneRatio,
@@ -80,7 +83,8 @@ fn is_outside(limit: Limit) -> bool
     limit.value < limit.low || limit.high < limit.value
 }
 
-fn first_outside(limits: &[Limit]) -> Option<Figure>
+// The figure of the first row whose value is outside.
+pub fn first_outside(limits: &[Limit]) -> Option<Figure>
     ensures { λ r. ⌜ r ≡ first-outside (now (limits .entry)) ⌝ }
 {
     for x in limits {

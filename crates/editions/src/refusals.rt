@@ -12,6 +12,7 @@ impl Figure {
         match self {
             Figure::ChordDiameter | Figure::ChordWall | Figure::NominalWall | Figure::ChordYield =>
                 7,
+            Figure::AxialForce | Figure::InPlaneMoment | Figure::OutOfPlaneMoment => 10,
             Figure::AxialRatio | Figure::InPlaneRatio | Figure::OutOfPlaneRatio => 10,
             _ => 8,
         }
@@ -35,6 +36,9 @@ impl Figure {
             Figure::ShareK => 10,
             Figure::ShareY => 11,
             Figure::ShareX => 12,
+            Figure::AxialForce => 4,
+            Figure::InPlaneMoment => 5,
+            Figure::OutOfPlaneMoment => 6,
             Figure::AxialRatio => 7,
             Figure::InPlaneRatio => 8,
             Figure::OutOfPlaneRatio => 9,

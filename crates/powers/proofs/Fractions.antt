@@ -1,11 +1,11 @@
 -- Laws of powers of numbers, and of the order of fractions.
 use mathlib.Core.Path.{_≡_, sym, _∙_, ap, ap₂}
 use Prim.Native.Nat.{ℕ, zero, suc, _+_, _*_, _^_, _≤_, _<_}
-use native.Mathlib.Nat.{pow-zero, pow-suc, mul-zero, mul-suc, mul-mul-mul-comm, mul-le-mul-right, mul-le-mul-left, mul-le-mul, le-of-mul-le-mul-right, pow-le-pow-left, pow-lt-pow-left, lt-of-not-le, not-le-of-lt, le-of-eq, le-dest, mul-comm, mul-pos}
+use native.Mathlib.Nat.{pow-zero, pow-suc, mul-zero, mul-suc, mul-mul-mul-comm, mul-le-mul-right, mul-le-mul-left, mul-le-mul, le-of-mul-le-mul-right, lt-of-mul-lt-mul-right, mul-lt-mul-of-pos-right, pow-le-pow-left, pow-lt-pow-left, lt-of-not-le, not-le-of-lt, le-of-eq, le-dest, mul-comm, mul-pos}
 use native.Mathlib.Decide.{decLe}
 use native.Mathlib.Omega.{arith}
 use lib.Pow.{pow-add}
-use Rattle.powers.specs.Fractions.{Fraction, den-positive, _≤ᶠ_, _*ᶠ_, _+ᶠ_, _^ᶠ_}
+use Rattle.powers.specs.Fractions.{Fraction, den-positive, _≤ᶠ_, _<ᶠ_, _*ᶠ_, _+ᶠ_, _^ᶠ_}
 
 -- numbers
 pub mul-pow : (a b n : ℕ) → (a * b) ^ n ≡ a ^ n * b ^ n
@@ -36,6 +36,10 @@ le-refl = record { across = omega arith }
 pub le-trans : {f g h : Fraction} → f ≤ᶠ g → g ≤ᶠ h → f ≤ᶠ h
 le-trans {f} {g} {h} p q =
     record { across = le-of-mul-le-mul-right {k = g .den} (omega (arith, mul-le-mul-right (h .den) (p .across), mul-le-mul-right (f .den) (q .across))) (den-positive g) }
+
+pub lt-le-trans : {f g h : Fraction} → f <ᶠ g → g ≤ᶠ h → f <ᶠ h
+lt-le-trans {f} {g} {h} p q =
+    record { across = lt-of-mul-lt-mul-right (g .den) (omega (arith, mul-lt-mul-of-pos-right (p .across) (den-positive h), mul-le-mul-right (f .den) (q .across))) }
 
 pub mul-mono : {f g h k : Fraction} → f ≤ᶠ g → h ≤ᶠ k → f *ᶠ h ≤ᶠ g *ᶠ k
 mul-mono p q = record { across = omega (arith, mul-le-mul (p .across) (q .across)) }

@@ -9,7 +9,8 @@
 --     f +ᶠ g, f *ᶠ g       the sum and the product
 --     f −ᶠ g               the difference, 0 where g is the greater
 --     f ^ᶠ n               the power
---     f ÷ p, p ÷⁺ q        a fraction divided by a positive one; a positive one divided by a positive one
+--     f ÷ p                f divided by a positive fraction
+--     p *⁺ q, p ÷⁺ q       the product and the quotient of two positive ones
 --     f at-most g          the lesser of the two
 --
 -- Assumes nothing.
@@ -26,6 +27,7 @@ infixl 60 _−ᶠ_
 infixl 70 _*ᶠ_
 infixl 70 _÷_
 infixl 70 _÷⁺_
+infixl 70 _*⁺_
 infixr 80 _^ᶠ_
 pub record Fraction : Type 0 where
   pub num : ℕ
@@ -72,6 +74,9 @@ f ^ᶠ n = quotient (f .num ^ n) (f .den ^ n) (one-le-pow n (f .den) (den-positi
 
 abbrev pub _÷_ : Fraction → Positive → Fraction
 f ÷ p = quotient (f .num * p .value .den) (f .den * p .value .num) (mul-pos (den-positive f) (num-positive p))
+
+abbrev pub _*⁺_ : Positive → Positive → Positive
+p *⁺ q = positive-of (p .value *ᶠ q .value) (mul-pos (num-positive p) (num-positive q))
 
 abbrev pub _÷⁺_ : Positive → Positive → Positive
 p ÷⁺ q = positive-of (p .value ÷ q) (mul-pos (num-positive p) (den-positive (q .value)))

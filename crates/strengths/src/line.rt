@@ -126,7 +126,7 @@ pub fn read_joint(bytes: &[u8]) -> Result<Joint, Fault> {
     described(values)
 }
 
-// The field of a figure on a line, and its name.
+// The field of a figure on a line, and its name; 0 for a figure that no line has.
 fn field(figure: Figure) -> (u8, &'static str) {
     match figure {
         Figure::ChordDiameter => (1, "D"),
@@ -145,6 +145,9 @@ fn field(figure: Figure) -> (u8, &'static str) {
         Figure::AxialRatio => (11, "p"),
         Figure::InPlaneRatio => (12, "mi"),
         Figure::OutOfPlaneRatio => (13, "mo"),
+        Figure::AxialForce => (0, "N"),
+        Figure::InPlaneMoment => (0, "My"),
+        Figure::OutOfPlaneMoment => (0, "Mz"),
     }
 }
 

@@ -1,4 +1,4 @@
-// Worked strengths, and figures on both sides of every limit, as tests.
+// Worked strengths and verdicts, and figures on both sides of every limit, as tests.
 #[cfg(test)]
 mod rows;
 
@@ -28,6 +28,11 @@ mod tests {
     use editions::record::Chord;
     use editions::strength::Strength;
     use std::test::*;
+    use verdicts::force::Force;
+    use verdicts::forces::ForceFigures;
+    use verdicts::reckon::verdict;
+    use verdicts::verdict::Part;
+    use verdicts::verdict::Verdict;
 
     // A joint with a yield of 350 throughout and a gap g.
     #[derive(Clone, Copy)]
@@ -421,6 +426,188 @@ mod tests {
         check_eq(edition_number(""), 0)
     }
 
+    // A force on an X joint with D 400, T 80, d 320 and sine 1, and the chord's axial ratio.
+    #[derive(Clone, Copy)]
+    struct Load {
+        n: i64,
+        my: i64,
+        mz: i64,
+        p: i64,
+    }
+
+    fn figures_of(load: Load) -> ForceFigures {
+        ForceFigures {
+            n: load.n,
+            my: load.my,
+            mz: load.mz,
+            p: load.p,
+            mi: 0,
+            mo: 0,
+        }
+    }
+
+    // 1, 2 and 3 with the ends of PASS, FAIL and NEAR; 4 with the part of FAR; 5 with the kind of a spent chord.
+    fn answer<E: Edition>(edition: &E, load: Load) -> (u8, u64, u64) {
+        let Some(brace) = brace_of(unloaded(400, 80, 320)) else {
+            return (0, 0, 0);
+        };
+        let Ok(force) = Force::new(figures_of(load)) else {
+            return (0, 0, 0);
+        };
+        match verdict(edition, &brace, &force) {
+            Ok(Verdict::Pass(e)) => (1, e.low, e.high),
+            Ok(Verdict::Fail(e)) => (2, e.low, e.high),
+            Ok(Verdict::Near(e)) => (3, e.low, e.high),
+            Ok(Verdict::Far(Part::AxialForce)) => (4, 1, 1),
+            Ok(Verdict::Far(Part::InPlaneMoment)) => (4, 2, 2),
+            Ok(Verdict::Far(Part::OutOfPlaneMoment)) => (4, 3, 3),
+            Err(spent) => (5, spent.kind.number() as u64, 0),
+        }
+    }
+
+    // The answer is this verdict, and its ends enclose `value` and are at most 20 millionths apart.
+    fn is_about(answer: (u8, u64, u64), verdict: u8, value: u64) -> bool {
+        let (found, low, high) = answer;
+        found == verdict && low <= value && value <= high && high.saturating_sub(low) <= 20
+    }
+
+    fn pull(n: i64) -> Load {
+        Load {
+            n,
+            my: 0,
+            mz: 0,
+            p: 0,
+        }
+    }
+
+    fn bend(my: i64, mz: i64) -> Load {
+        Load { n: 0, my, mz, p: 0 }
+    }
+
+    // X tension resists 412,160 N.
+    #[test]
+    fn a_pull_of_206080_is_half_of_what_x_resists() -> Result<(), Fail> {
+        check(is_about(answer(&Iso2007 {}, pull(206080)), 1, 500000))?;
+        check(is_about(answer(&Api {}, pull(206080)), 1, 500000))?;
+        check(is_about(answer(&Iso2007 {}, pull(0)), 1, 0))
+    }
+
+    #[test]
+    fn pulls_about_the_resistance_pass_are_near_or_fail() -> Result<(), Fail> {
+        check(is_about(answer(&Iso2007 {}, pull(412150)), 1, 999976))?;
+        check(is_about(answer(&Iso2007 {}, pull(412160)), 3, 1000000))?;
+        check(is_about(answer(&Iso2007 {}, pull(412170)), 2, 1000024))?;
+        check(is_about(answer(&Iso2007 {}, pull(420000)), 2, 1019022))
+    }
+
+    // X compression resists less than X tension; the sign of the force tells which.
+    #[test]
+    fn the_sign_of_the_force_chooses_the_kind() -> Result<(), Fail> {
+        let (pulled, _, most) = answer(&Iso2007 {}, pull(206080));
+        let (pushed, least, _) = answer(&Iso2007 {}, pull(-206080));
+        check(pulled == 1 && pushed == 1 && most < least)
+    }
+
+    // In-plane the joint resists 129,024 Nm by ISO.
+    #[test]
+    fn the_in_plane_ratio_is_squared() -> Result<(), Fail> {
+        check(is_about(answer(&Iso2007 {}, bend(64512, 0)), 1, 250000))?;
+        check(is_about(answer(&Iso2007 {}, bend(-64512, 0)), 1, 250000))
+    }
+
+    #[test]
+    fn a_ratio_above_ten_is_far_and_the_first_is_named() -> Result<(), Fail> {
+        check(answer(&Iso2007 {}, pull(4121600)).0 == 2)?;
+        check(answer(&Iso2007 {}, pull(4121700)) == (4, 1, 1))?;
+        check(answer(&Iso2007 {}, bend(1290200, 0)).0 == 2)?;
+        check(answer(&Iso2007 {}, bend(1290300, 0)) == (4, 2, 2))?;
+        check(answer(&Iso2007 {}, bend(0, 100000000)) == (4, 3, 3))?;
+        check(answer(&Iso2007 {}, bend(1290300, 100000000)) == (4, 2, 2))?;
+        let all = Load {
+            n: -100000000,
+            my: 100000000,
+            mz: -100000000,
+            p: 0,
+        };
+        check(answer(&Api {}, all) == (4, 1, 1))
+    }
+
+    // Y is spent there by API, but this brace has no share of Y; in-plane, kind 6, is in use whatever the shares.
+    #[test]
+    fn only_kinds_in_use_can_be_spent() -> Result<(), Fail> {
+        let spent_for_y = Load {
+            n: 1000,
+            my: 0,
+            mz: 0,
+            p: -8897,
+        };
+        let spent_in_plane = Load {
+            n: 1000,
+            my: 0,
+            mz: 0,
+            p: -10000,
+        };
+        check(is_about(answer(&Api {}, spent_for_y), 1, 5691))?;
+        check(answer(&Iso2007 {}, spent_in_plane) == (5, 6, 0))
+    }
+
+    fn force_fault(figures: ForceFigures) -> (u8, u8) {
+        match Force::new(figures) {
+            Ok(_) => (0, 0),
+            Err(figure) => (figure.number(), figure.field()),
+        }
+    }
+
+    #[test]
+    fn forces_within_a_hundred_million() -> Result<(), Fail> {
+        let top = 100000000;
+        let whole = figures_of(Load {
+            n: top,
+            my: -top,
+            mz: top,
+            p: 10000,
+        });
+        check(force_fault(whole) == (0, 0))?;
+        check(
+            force_fault(ForceFigures {
+                n: top + 1,
+                ..whole
+            })
+                == (10, 4),
+        )?;
+        check(
+            force_fault(ForceFigures {
+                n: i64::MIN,
+                my: top + 1,
+                ..whole
+            })
+                == (10, 4),
+        )?;
+        check(
+            force_fault(ForceFigures {
+                my: -top - 1,
+                ..whole
+            })
+                == (10, 5),
+        )?;
+        check(
+            force_fault(ForceFigures {
+                mz: top + 1,
+                ..whole
+            })
+                == (10, 6),
+        )?;
+        check(force_fault(ForceFigures { p: 10001, ..whole }) == (10, 7))?;
+        check(
+            force_fault(ForceFigures {
+                mi: -10001,
+                ..whole
+            })
+                == (10, 8),
+        )?;
+        check(force_fault(ForceFigures { mo: 10001, ..whole }) == (10, 9))
+    }
+
     fn column(figure: Figure) -> i64 {
         match figure {
             Figure::ChordDiameter => 1,
@@ -439,6 +626,9 @@ mod tests {
             Figure::AxialRatio => 14,
             Figure::InPlaneRatio => 15,
             Figure::OutOfPlaneRatio => 16,
+            Figure::AxialForce => 17,
+            Figure::InPlaneMoment => 18,
+            Figure::OutOfPlaneMoment => 19,
         }
     }
 
