@@ -1,0 +1,4 @@
+pub mod Causes
+pub mod Ledger
+pub mod Places
+pub mod Worsts
