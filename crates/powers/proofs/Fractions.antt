@@ -53,10 +53,6 @@ pub add-cancel : (f g h : Fraction) → f +ᶠ h ≤ᶠ g +ᶠ h → f ≤ᶠ g
 add-cancel f g h p =
     record { across = le-of-mul-le-mul-right {k = h .den * h .den} (omega (arith, p .across)) (mul-pos (den-positive h) (den-positive h)) }
 
-pub mul-cancel : (f g h : Fraction) → 0 < h .num → f *ᶠ h ≤ᶠ g *ᶠ h → f ≤ᶠ g
-mul-cancel f g h n p =
-    record { across = le-of-mul-le-mul-right {k = h .num * h .den} (omega (arith, p .across)) (mul-pos n (den-positive h)) }
-
 pub pow-mono : {f g : Fraction} (n : ℕ) → f ≤ᶠ g → f ^ᶠ n ≤ᶠ g ^ᶠ n
 pow-mono n p = record { across = simp (← mul-pow) (pow-le-pow-left (p .across) n) }
 

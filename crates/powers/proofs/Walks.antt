@@ -71,19 +71,13 @@ module _ (x z : Ends) (q : Fraction) (j : ℕ) (r : Near x (power q (binary 1 j)
       let m = at-most-64 (z .low) (2 ^ (j + 1)) (pow-pos (j + 1)) (next-nearer n) in
       record { low = e .low; high = e .high; least = one; most = omega (arith, h .high); tight = omega (arith, h .high, one) }
 
--- a power with an exponent up to 1 of a base from 1 to 64 lies between 1 and 64
+-- a power with an exponent up to 1 of a base from 1 to 64 is at most 64
 module _ (q e : Fraction) (from : q .den ≤ q .num) (to : q .num ≤ 64 * q .den) (up : e .num ≤ e .den) where
-  pub not-above-one : NotAbovePower (units (2 ^ 40)) q e
-  not-above-one = exponent-up (units (2 ^ 40)) q (number 0 1) e from (record { across = omega arith }) (record { across = simp (pow-zero, pow-one) (omega arith) })
-
   pub not-below-64 : NotBelowPower (units (64 * 2 ^ 40)) q e
   not-below-64 = exponent-down (units (64 * 2 ^ 40)) q (number 1 1) e from (record { across = omega arith }) (record { across = simp pow-one (omega arith) })
 
   pub low-at-most : (l : ℕ) → NotAbovePower (units l) q e → l ≤ 64 * 2 ^ 40
   low-at-most l h = le-of-mul-le-mul-right {k = 2 ^ 40} (above-below (units l) (units (64 * 2 ^ 40)) q e h not-below-64 .across) (lit< tt)
-
-  pub high-at-least : (h : ℕ) → NotBelowPower (units h) q e → 2 ^ 40 ≤ h
-  high-at-least h k = le-of-mul-le-mul-right {k = 2 ^ 40} (above-below (units (2 ^ 40)) (units h) q e not-above-one k .across) (lit< tt)
 
 -- a product stays below 65
 capped : (l h n : ℕ) → l ≤ 64 * 2 ^ 40 → n ≤ 300 → h * 2 ^ 40 ≤ l * (2 ^ 40 + n) → h ≤ 65 * 2 ^ 40

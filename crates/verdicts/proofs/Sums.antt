@@ -76,14 +76,3 @@ square-over-one low f h p =
 
 pub under-one : (high : ℕ) (f : Fraction) → high ≤ 1000000 → f ≤ᶠ millionths high → f ≤ᶠ whole-number 1
 under-one high f h p = le-trans {g = millionths high} p (record { across = omega arith })
-
--- From ends of 700 parts in a million more can be had: a five-hundredth and 8.
-pub sum-closer : (a a′ i i′ o o′ : ℕ) → a′ * 1000000 ≤ a * 1000700 + 2000700 → i′ * 1000000 ≤ i * 1000700 + 2000700 → o′ * 1000000 ≤ o * 1000700 + 2000700
-    → (a′ + (i′ * i′ + 999999) / 1000000 + o′) * 500 ≤ (a + i * i / 1000000 + o) * 501 + 4000
-sum-closer a a′ i i′ o o′ p q r = elim (cases-lt i 400000) [ inl k ↦ omega (arith, s) | inr k ↦ large k ]
-  where
-    s : (i′ * 1000000) * (i′ * 1000000) ≤ (i * 1000700 + 2000700) * (i * 1000700 + 2000700)
-    s = mul-le-mul q q
-
-    large : 400000 ≤ i → (a′ + (i′ * i′ + 999999) / 1000000 + o′) * 500 ≤ (a + i * i / 1000000 + o) * 501 + 4000
-    large k = let t : 400000 * i ≤ i * i = mul-le-mul-right i k in omega (arith, s, t)
