@@ -1,4 +1,6 @@
 // A book of tubular joints over any edition: six calls, and what they come to over a whole run.
+#![tactic(auto)]
+
 pub mod book;
 pub mod calls;
 pub mod keeping;

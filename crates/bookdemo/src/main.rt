@@ -1,4 +1,6 @@
 // Runs a list of calls on a book by API RP 2A and prints each call with its answer.
+#![tactic(auto)]
+
 mod script;
 mod shown;
 

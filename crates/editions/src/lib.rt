@@ -1,4 +1,6 @@
 // Editions of the rules for the strength of tubular joints.
+#![tactic(auto)]
+
 pub mod api;
 mod api_factors;
 mod chord;

@@ -1,4 +1,6 @@
 // Reads cards from standard input and answers them on standard output.
+#![tactic(auto)]
+
 ghost use Rattle.std.specs.Prelude.{◌≤◌, length, IfOk};
 
 use decks::respond::{TOO_LONG, respond};

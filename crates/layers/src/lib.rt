@@ -1,4 +1,6 @@
 // Layers over any edition, and the piles of them that three numbers name.
+#![tactic(auto)]
+
 pub mod bare;
 pub mod can;
 pub mod dividing;

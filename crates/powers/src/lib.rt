@@ -1,4 +1,6 @@
 // Fractions, powers and formulas, and pairs of ends in fixed point that are proved to enclose them.
+#![tactic(auto)]
+
 pub mod ends;
 pub mod ops;
 pub mod quotient;

@@ -1,4 +1,6 @@
 // Tells the seven strengths of each joint that standard input lists, by both editions, with their ends.
+#![tactic(auto)]
+
 use std::io::{BufRead, BufReader};
 
 mod line;

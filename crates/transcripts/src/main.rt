@@ -1,4 +1,6 @@
 // Answers each file of cards that an argument names, as jointcheck answers standard input.
+#![tactic(auto)]
+
 use decks::respond::respond;
 use std::{env, fs};
 

@@ -1,4 +1,6 @@
 // Worked strengths and verdicts, and figures on both sides of every limit, as tests.
+#![tactic(auto)]
+
 #[cfg(test)]
 mod rows;
 
