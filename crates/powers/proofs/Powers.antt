@@ -1,5 +1,5 @@
 -- Laws of the bounds of a power.
-use Rattle.std.proofs.Common.{◌≡◌, ℕ, ◌+◌, ◌*◌, ◌^◌, ◌<◌, ◌≤◌, sym, ap, mul-pos}
+use Rattle.std.proofs.Common.{◌≡◌, ℕ, ◌*◌, ◌^◌, ◌<◌, ◌≤◌, sym, ap, mul-pos}
 use Rattle.powers.specs.Fractions.{Fraction, den_positive, quotient, ◌≤ᶠ◌, ◌*ᶠ◌, ◌+ᶠ◌, ◌^ᶠ◌}
 use Rattle.powers.specs.Powers.{NotAbovePower, NotBelowPower}
 use Rattle.powers.proofs.Fractions.{same, le_trans, mul_mono, pow_mono, pow_root, swapᶠ, joinᶠ, partᶠ, addᶠ, sumᶠ, timesᶠ, untimesᶠ, pow_rise}

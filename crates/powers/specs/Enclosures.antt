@@ -21,7 +21,7 @@
 use Rattle.std.specs.Prelude.{◌≡◌, ℕ, ◌+◌, ◌-◌, ◌*◌, ◌/◌, ◌^◌, ◌<◌, ◌≤◌, min, max, T, nat_le, nat_lt}
 use Rattle.powers.specs.declared.ends.Ends.{Ends}
 use Rattle.powers.specs.declared.quotient.Quotient.{Quotient}
-use Rattle.powers.specs.Fractions.{Fraction, quotient, number}
+use Rattle.powers.specs.Fractions.{Fraction, number}
 use Rattle.powers.specs.Formulas.{Formula, constant, power, ◌⊕◌, ◌⊖◌, ◌⊗◌, ◌at_least◌, NotAbove, NotBelow}
 
 abbrev pub units : ℕ → Fraction

@@ -4,5 +4,5 @@ use Rattle.book.proofs.running.run.Goals as goal
 
 pub returns : goal.returns
 returns g c =
-    ran g.E.Edition.meaning c.args.edition c.in-ok-book.book c.args.calls.now (vec_items c.in-Ok.answers) c.perform.new.book
-    c.in-ok-book.ensures c.in-Ok.ensures
+    ran g.E.Edition.meaning c.args.edition c.in_ok-book.book c.args.calls.now (vec_items c.in-Ok.answers) c.perform.new.book
+    c.in_ok-book.ensures c.in-Ok.ensures

@@ -6,17 +6,17 @@ use Rattle.std.proofs.lemmas.List.{take_all}
 use Rattle.cards.proofs.Signs.{front_small, digit_value, no_digit}
 use Rattle.cards.proofs.numbers.digits.Goals as goal
 
-pub overflow-mul-n : goal.overflow-mul-n
-overflow-mul-n c = omega (arith, front_small c.args.field.now c.loop-b.b-index c.loop-b-test.true c.if-field-gt10.false c.loop-b.invariant.1)
+pub overflow_mul-n : goal.overflow_mul-n
+overflow_mul-n c = omega (arith, front_small c.args.field.now c.loop-b.b-index c.loop-b-test.true c.if-field-gt10.false c.loop-b.invariant.1)
 
-pub overflow-add-n : goal.overflow-add-n
-overflow-add-n c = omega (arith, front_small c.args.field.now c.loop-b.b-index c.loop-b-test.true c.if-field-gt10.false c.loop-b.invariant.1)
+pub overflow_add-n : goal.overflow_add-n
+overflow_add-n c = omega (arith, front_small c.args.field.now c.loop-b.b-index c.loop-b-test.true c.if-field-gt10.false c.loop-b.invariant.1)
 
-pub returns-in-default : goal.returns-in-default
-returns-in-default c = λ d _. no_digit c.args.field.now c.loop-b.b-index c.loop-b-test.true (λ i. omega arith) d
+pub returns-in_default : goal.returns-in_default
+returns-in_default c = λ d _. no_digit c.args.field.now c.loop-b.b-index c.loop-b-test.true (λ i. omega arith) d
 
-pub returns-in-default·2 : goal.returns-in-default·2
-returns-in-default·2 c = λ d _. no_digit c.args.field.now c.loop-b.b-index c.loop-b-test.true (λ i. omega arith) d
+pub returns-in_default·2 : goal.returns-in_default·2
+returns-in_default·2 c = λ d _. no_digit c.args.field.now c.loop-b.b-index c.loop-b-test.true (λ i. omega arith) d
 
 pub loop-b-preserved : goal.loop-b-preserved
 loop-b-preserved c =

@@ -8,9 +8,9 @@ use Rattle.cards.proofs.numbers.number.Goals as goal
 pub returns : goal.returns
 returns c =
     let bs = c.args.field.now in
-    let r = c.signed-number.result in
+    let r = c.signed_number.result in
     record {
-      is = one_signed bs r (number_in bs) c.signed-number.ensures (number_reads bs);
-      written = λ z e. subst (ReadsSigned bs) e c.signed-number.ensures;
-      read = λ z t. exact bs r z c.signed-number.ensures t;
+      is = one_signed bs r (number_in bs) c.signed_number.ensures (number_reads bs);
+      written = λ z e. subst (ReadsSigned bs) e c.signed_number.ensures;
+      read = λ z t. exact bs r z c.signed_number.ensures t;
     }

@@ -11,5 +11,5 @@ returns-in-48 c = zero_text c.args.field.now (omega (arith, ltb-true, ltb-false)
 pub returns-in-48-2 : goal.returns-in-48-2
 returns-in-48-2 c = none_zero c.args.field.now (omega (arith, ltb-true, ltb-false)) (search rules)
 
-pub returns-in-default : goal.returns-in-default
-returns-in-default c = reads c.args.field.now c.digits.result (omega (arith, ltb-true, ltb-false)) (λ z. search rules) c.digits.ensures
+pub returns-in_default : goal.returns-in_default
+returns-in_default c = reads c.args.field.now c.digits.result (omega (arith, ltb-true, ltb-false)) (λ z. search rules) c.digits.ensures

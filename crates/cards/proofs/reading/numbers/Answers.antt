@@ -11,7 +11,7 @@ loop-i-preserved c =
     let inv = c.loop-i.invariant in
     let in_array : c.loop-i.i < length c.loop-i.values = omega (arith, inv.2) in
     simp to_z-of_z (
-      numbers_more _ c.loop-i.values c.loop-i.i (c.loop-i.i + 2) (c.loop-i.i + 1 + 2) (left c.loop-i.fields) (left c.next-field.new.self) c.in-Some.field.bytes.now c.in-Some-number.value in_array came.first c.in-Some-number.ensures.is (omega arith) inv.0,
+      numbers_more _ c.loop-i.values c.loop-i.i (c.loop-i.i + 2) (c.loop-i.i + 1 + 2) (left c.loop-i.fields) (left c.next_field.new.self) c.in-Some.field.bytes.now c.in-Some-number.value in_array came.first c.in-Some-number.ensures.is (omega arith) inv.0,
       omega (arith, inv.1, ap length came.first),
       omega (arith, inv.2, length-set c.loop-i.values c.loop-i.i c.in-Some-number.value),
     )

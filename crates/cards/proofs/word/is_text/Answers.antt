@@ -6,6 +6,6 @@ use Rattle.cards.proofs.word.is_text.Goals as goal
 pub returns : goal.returns
 returns c =
     same_from_decides _ _
-    (subst (λ (x : List ℕ). Decides c.eq.result (c.args.bytes.now ≡ x)) c.as-bytes.ensures.value
+    (subst (λ (x : List ℕ). Decides c.eq.result (c.args.bytes.now ≡ x)) c.as_bytes.ensures.value
     (slice_eq-Decides Decides-eqb c.args.bytes.now _ c.eq.result c.eq.ensures))
     (bytes_eq-Decides c.args.bytes.now c.args.text.now)

@@ -6,7 +6,7 @@ use Rattle.decks.proofs.Following.{Sofar, sofar_none, sofar_more, deck_whole, to
 use Rattle.decks.proofs.respond.respond.Goals as goal
 
 pub returns-then-input-gt32768 : goal.returns-then-input-gt32768
-returns-then-input-gt32768 c = too_much c.args.input.now _ c.if-input-gt32768.true c.from-str.ensures.ok
+returns-then-input-gt32768 c = too_much c.args.input.now _ c.if-input-gt32768.true c.from_str.ensures.ok
 
 pub loop-line-init : goal.loop-line-init
 loop-line-init c =
@@ -19,18 +19,18 @@ loop-line-init c =
 pub loop-line-preserved : goal.loop-line-preserved
 loop-line-preserved c =
     let came = c.in-Some.ensures.steps in
-    let said = c.in-ok-text.ensures in (
+    let said = c.in_ok-text.ensures in (
       tt,
       tt,
-      sofar_more c.args.input.now (left c.loop-line.line-iterator) (left c.next.new.self) (string_bytes c.loop-line.out) (string_bytes c.push-str.new.self) (seen c.loop-line.line-iterator) (seen c.next.new.self) c.in-Some.line.number (desk_of c.loop-line.session) (desk_of c.answer.new.self) c.in-Some.line.bytes.now said.0 c.loop-line.invariant.2 came.first came.number came.count said.1
-          (c.in-ok-push-str.ensures.bytes ∙ ap (λ x. string_bytes c.loop-line.out ++ x) (c.as-str.ensures.value ∙ said.2)),
+      sofar_more c.args.input.now (left c.loop-line.line-iterator) (left c.next.new.self) (string_bytes c.loop-line.out) (string_bytes c.push_str.new.self) (seen c.loop-line.line-iterator) (seen c.next.new.self) c.in-Some.line.number (desk_of c.loop-line.session) (desk_of c.answer.new.self) c.in-Some.line.bytes.now said.0 c.loop-line.invariant.2 came.first came.number came.count said.1
+          (c.in_ok-push_str.ensures.bytes ∙ ap (λ x. string_bytes c.loop-line.out ++ x) (c.as_str.ensures.value ∙ said.2)),
     )
 
 pub returns : goal.returns
 returns c = record {
   deck = λ _.
-      deck_whole c.args.input.now (left c.loop-line.line-iterator) (string_bytes c.loop-line.out) (string_bytes c.in-ok-last.last) _ (seen c.loop-line.line-iterator) (desk_of c.loop-line.session) c.loop-line.invariant.2 c.in-None.ensures.steps.0 c.in-ok-last.ensures
-      (c.in-ok-push-str-2.ensures.bytes ∙ ap (λ x. string_bytes c.loop-line.out ++ x) c.as-str-2.ensures.value);
+      deck_whole c.args.input.now (left c.loop-line.line-iterator) (string_bytes c.loop-line.out) (string_bytes c.in_ok-last.last) _ (seen c.loop-line.line-iterator) (desk_of c.loop-line.session) c.loop-line.invariant.2 c.in-None.ensures.steps.0 c.in_ok-last.ensures
+      (c.in_ok-push_str-2.ensures.bytes ∙ ap (λ x. string_bytes c.loop-line.out ++ x) c.as_str-2.ensures.value);
   much = λ h. absurd (omega arith);
   usable = pile_usable;
 }

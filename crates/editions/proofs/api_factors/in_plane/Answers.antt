@@ -10,5 +10,5 @@ pub returns : goal.returns
 returns c =
     let r = c.args.r.now in
     let slope = c.exact-slope.ensures.near (number 5 1 +ᶠ number 7 10 *ᶠ gamma r) (milli 12000) (milli 40000) (omega arith) (omega arith) (omega arith) tt tt in
-    let power = c.six-fifths-power.ensures.near (beta r) c.beta.ensures.is c.beta.ensures.range in
+    let power = c.six_fifths-power.ensures.near (beta r) c.beta.ensures.is c.beta.ensures.range in
     weaken (c.mul.ensures.near slope power (tt, tt, tt, tt)) (tt, tt, tt)

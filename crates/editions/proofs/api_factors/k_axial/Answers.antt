@@ -15,6 +15,6 @@ returns c =
     let slope = at_most_near (number 16 1 +ᶠ number 12 10 *ᶠ gamma r) (number 40 1)
     (λ h. c.exact-slope.ensures.near (number 16 1 +ᶠ number 12 10 *ᶠ gamma r) (milli 28000) (milli 40000) (slope_is r.diameter r.wall _ (omega arith)) (omega arith) (omega arith) tt tt)
     (λ h. c.exact-slope.ensures.near (number 40 1) (milli 28000) (milli 40000) (omega arith) (lit≤ tt) (lit≤ tt) tt tt) in
-    let power = c.six-fifths-power.ensures.near (beta r) c.beta.ensures.is c.beta.ensures.range in
+    let power = c.six_fifths-power.ensures.near (beta r) c.beta.ensures.is c.beta.ensures.range in
     let part = c.mul-part.ensures.near slope power (tt, tt, tt, tt) in
-    weaken (c.mul.ensures.near part c.gap-factor-q.ensures (tt, tt, tt, tt)) (tt, tt, tt)
+    weaken (c.mul.ensures.near part c.gap_factor-q.ensures (tt, tt, tt, tt)) (tt, tt, tt)

@@ -15,7 +15,7 @@ returns c =
     let slope = at_most_near (number 20 1 +ᶠ number 8 10 *ᶠ gamma r) (number 36 1)
     (λ h. c.exact-slope.ensures.near (number 20 1 +ᶠ number 8 10 *ᶠ gamma r) (milli 28000) (milli 36000) (slope_is r.diameter r.wall _ (omega arith)) (omega arith) (omega arith) tt tt)
     (λ h. c.exact-slope.ensures.near (number 36 1) (milli 28000) (milli 36000) (omega arith) (lit≤ tt) (lit≤ tt) tt tt) in
-    let power = c.eight-fifths-power.ensures.near (beta r) c.beta.ensures.is c.beta.ensures.range in
+    let power = c.eight_fifths-power.ensures.near (beta r) c.beta.ensures.is c.beta.ensures.range in
     let part = c.mul-part.ensures.near slope power (tt, tt, tt, tt) in
     let start = c.exact-start.ensures.near (number 28 10) (milli 2800) (milli 2801) refl (lit≤ tt) (lit≤ tt) tt tt in
     weaken (c.add.ensures.near start part tt) (tt, tt, tt)

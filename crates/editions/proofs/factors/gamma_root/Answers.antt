@@ -8,4 +8,4 @@ pub returns : goal.returns
 returns c =
     let r = c.args.r.now in
     let s = c.gamma.ensures in
-    weaken (c.square-root.ensures.near (gamma r) (milli 3160) (milli 7072) s.is (omega arith) (omega arith) tt (omega (arith, s.small))) (tt, tt, tt)
+    weaken (c.square_root.ensures.near (gamma r) (milli 3160) (milli 7072) s.is (omega arith) (omega arith) tt (omega (arith, s.small))) (tt, tt, tt)

@@ -6,8 +6,8 @@ use Rattle.editions.specs.Figures.{phi, yield_positive}
 use Rattle.editions.proofs.Terms.{is_same}
 use Rattle.editions.proofs.factors.overlap_value.Goals as goal
 
-pub invariant-of-exact : goal.invariant-of-exact
-invariant-of-exact c = (omega (arith, c.times-2.ensures, yield_positive c.args.r.now), tt)
+pub invariant_of-exact : goal.invariant_of-exact
+invariant_of-exact c = record { whole = omega (arith, c.times-2.ensures, yield_positive c.args.r.now) }
 
 pub returns : goal.returns
 returns c =
@@ -17,6 +17,6 @@ returns c =
     let lo : r.wall * (2 * r.fy) ≤ (4 * r.thickness) * (5 * r.fyb) = mul-le-mul (omega arith) (omega arith) in
     let hi : r.thickness * (2 * r.fyb) ≤ (2 * r.wall) * (5 * r.fy) = mul-le-mul (omega arith) (omega arith) in
     let slope = c.exact-slope.ensures.near (number 65 100 *ᶠ phi r) (milli 65) (milli 3250) (is_same (omega (arith, c.times.ensures)) (omega (arith, c.times-2.ensures))) (omega arith) (omega arith) tt tt in
-    let part = c.mul-part.ensures.near slope c.gamma-root-root.ensures (tt, tt, tt, tt) in
+    let part = c.mul-part.ensures.near slope c.gamma_root-root.ensures (tt, tt, tt, tt) in
     let start = c.exact-start.ensures.near (number 13 100) (milli 130) (milli 131) refl (lit≤ tt) (lit≤ tt) tt tt in
     weaken (c.add.ensures.near start part tt) (tt, tt, tt)

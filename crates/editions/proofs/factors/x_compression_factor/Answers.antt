@@ -14,8 +14,8 @@ returns c =
     let part = c.mul-part.ensures.near slope b (tt, tt, tt, tt) in
     let start = c.exact-start.ensures.near (number 28 10) (milli 2800) (milli 2801) refl (lit≤ tt) (lit≤ tt) tt tt in
     let sum = c.add-sum.ensures.near start part tt in
-    let e = c.beta-factor.ensures in
-    let lo = bound_is 59 100 (q_beta r) c.beta-factor.result e.is e.least in
-    let hi = bound_is_above 100 301 (q_beta r) c.beta-factor.result e.is e.most in
+    let e = c.beta_factor.ensures in
+    let lo = bound_is 59 100 (q_beta r) c.beta_factor.result e.is e.least in
+    let hi = bound_is_above 100 301 (q_beta r) c.beta_factor.result e.is e.most in
     let q = c.exact-q.ensures.near (q_beta r) (milli 590) (milli 3011) e.is (omega arith) (omega arith) tt tt in
     weaken (c.mul.ensures.near sum q (tt, tt, tt, tt)) (tt, tt, tt)

@@ -19,18 +19,18 @@ returns c =
     let o = c.overlap-o.ensures in
     let s = of_wall r n *ᶠ number 1 2 in
     let t = of_wall r m *ᶠ number 1 2 in
-    let v = c.overlap-value-value.ensures in
+    let v = c.overlap_value-value.ensures in
     let share = c.exact-share.ensures.near s 274877906 (milli 1000) (is_same (omega arith) (omega arith)) (omega arith) (omega arith) tt tt in
     let other = c.exact-other.ensures.near t 274877906 (milli 1000) (is_same (omega arith) (omega arith)) (omega arith) (omega arith) tt tt in
     let start = c.exact-start.ensures.near (number 19 10) (milli 1900) (milli 1901) refl (lit≤ tt) (lit≤ tt) tt tt in
-    let root = c.square-root-root.ensures.near (number 1 5 *ᶠ of_diameter r r.wall) (milli 141) (milli 317) (omega arith) (omega arith) (omega arith) tt (omega arith) in
+    let root = c.square_root-root.ensures.near (number 1 5 *ᶠ of_diameter r r.wall) (milli 141) (milli 317) (omega arith) (omega arith) (omega arith) tt (omega arith) in
     let least = c.sub-least.ensures.near start root tt in
     let all = c.add.ensures.near (c.mul-part.ensures.near share v (tt, tt, tt, tt)) (c.mul-rest.ensures.near other least (tt, tt, tt, tt)) tt in
     let low = units (milli 335) in
     weaken (lift (milli 335) (milli 334) (
       s *ᶠ low,
       t *ᶠ low,
-      (s, low, le_refl, less (overlapped r) low (units c.overlap-value-value.result.low) (units_le (milli 335) _ _ tt v.least) v.low, le_refl),
+      (s, low, le_refl, less (overlapped r) low (units c.overlap_value-value.result.low) (units_le (milli 335) _ _ tt v.least) v.low, le_refl),
       (t, low, le_refl, less (constant (number 19 10) ⊖ power (number 1 5 *ᶠ of_diameter r r.wall) (number 1 2)) low (units c.sub-least.result.low) (units_le (milli 335) _ _ tt least.least) least.low, le_refl),
       record { across = iso_mixed r.wall n m whole },
     ) (lit≤ tt) all) (tt, tt, tt)

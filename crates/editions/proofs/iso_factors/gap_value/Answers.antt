@@ -14,8 +14,8 @@ returns c =
     let g = c.gap-g.ensures in
     let one = c.exact-one.ensures.near (number 1 1) (milli 1000) (milli 1000) refl (lit≤ tt) (lit≤ tt) tt tt in
     let start = c.exact-start.ensures.near (number 19 10) (milli 1900) (milli 1901) refl (lit≤ tt) (lit≤ tt) tt tt in
-    let root = c.square-root-root.ensures.near (of_diameter r (apart r.gap)) (milli 141) (milli 901) (is_same g refl) (omega arith) (omega arith) tt (omega arith) in
-    weaken (c.greater-of.ensures.near (c.sub-rest.ensures.near start root tt) one) (tt, tt, tt)
+    let root = c.square_root-root.ensures.near (of_diameter r (apart r.gap)) (milli 141) (milli 901) (is_same g refl) (omega arith) (omega arith) tt (omega arith) in
+    weaken (c.greater_of.ensures.near (c.sub-rest.ensures.near start root tt) one) (tt, tt, tt)
 
 pub returns-then-r-g : goal.returns-then-r-g
 returns-then-r-g c =

@@ -9,4 +9,4 @@ pub returns : goal.returns
 returns c =
     let r = c.args.r.now in
     let slope = c.exact-slope.ensures.near (number 45 10 *ᶠ beta r) (milli 900) (milli 4500) (omega arith) (omega arith) (omega arith) tt tt in
-    weaken (c.mul.ensures.near slope c.gamma-root-root.ensures (tt, tt, tt, tt)) (tt, tt, tt)
+    weaken (c.mul.ensures.near slope c.gamma_root-root.ensures (tt, tt, tt, tt)) (tt, tt, tt)

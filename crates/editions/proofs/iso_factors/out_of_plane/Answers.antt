@@ -7,8 +7,8 @@ use Rattle.editions.specs.Figures.{beta, gamma, diameter_positive}
 use Rattle.editions.proofs.Terms.{is_same}
 use Rattle.editions.proofs.iso_factors.out_of_plane.Goals as goal
 
-pub invariant-of-exponent : goal.invariant-of-exponent
-invariant-of-exponent c = (omega (arith, c.times-2.ensures, mul-pos (diameter_positive c.args.r.now) (diameter_positive c.args.r.now)), tt)
+pub invariant_of-exponent : goal.invariant_of-exponent
+invariant_of-exponent c = record { whole = omega (arith, c.times-2.ensures, mul-pos (diameter_positive c.args.r.now) (diameter_positive c.args.r.now)) }
 
 pub returns : goal.returns
 returns c =
@@ -20,6 +20,6 @@ returns c =
     let e2 = c.times-2.ensures in
     let start = c.exact-start.ensures.near (number 32 10) (milli 3200) (milli 3201) refl (lit≤ tt) (lit≤ tt) tt tt in
     let g = c.gamma.result.whole in
-    let power = c.power-below-power.ensures.near (gamma r) (number 1 2 *ᶠ (beta r *ᶠ beta r)) c.gamma.ensures.is (is_same (omega arith) (omega arith))
+    let power = c.power_below-power.ensures.near (gamma r) (number 1 2 *ᶠ (beta r *ᶠ beta r)) c.gamma.ensures.is (is_same (omega arith) (omega arith))
     (record { least = omega (arith, c.gamma.ensures.range); most = omega (arith, c.gamma.ensures.range); below = omega arith }) in
     weaken (c.mul.ensures.near start power (tt, tt, tt, tt)) (tt, tt, tt)

@@ -3,4 +3,4 @@ use Rattle.powers.proofs.Laws.{weaken}
 use Rattle.editions.proofs.iso_factors.y_compression.Goals as goal
 
 pub returns : goal.returns
-returns c = weaken c.y-compression-value.ensures (tt, tt, tt)
+returns c = weaken c.y_compression_value.ensures (tt, tt, tt)

@@ -14,26 +14,26 @@ module _ (a b u v A B C : ℕ) (pa : A ≡ a * v) (pb : B ≡ (b - a) * u) (pc :
       let n : (b - a) * u ≤ 48000000 * 4000000 = mul-le-mul y r in
       omega arith
 
-pub overflow-add-result : goal.overflow-add-result
-overflow-add-result c =
-    let s = c.at-most-one-s.ensures in
-    let h = sum_fits c.at-most-one-s.result.num c.at-most-one-s.result.den c.squared-thin.result c.squared-thick.result _ _ _ c.times.ensures c.times-2.ensures refl
+pub overflow_add-result : goal.overflow_add-result
+overflow_add-result c =
+    let s = c.at_most_one-s.ensures in
+    let h = sum_fits c.at_most_one-s.result.num c.at_most_one-s.result.den c.squared-thin.result c.squared-thick.result _ _ _ c.times.ensures c.times-2.ensures refl
     (omega (arith, s.small, c.ratio.ensures.small)) s.most c.squared-thin.ensures.small c.squared-thick.ensures.small in
     omega arith
 
-pub invariant-of-result : goal.invariant-of-result
-invariant-of-result c =
+pub invariant_of-result : goal.invariant_of-result
+invariant_of-result c =
     let p = wall_positive c.args.r.now in
-    let w = c.at-most-one-s.result.whole in
+    let w = c.at_most_one-s.result.whole in
     let t : 0 < c.squared-thick.result = omega (arith, c.squared-thick.ensures.is, mul-pos p p) in
     (omega (arith, c.times-3.ensures, mul-pos w t), tt)
 
 pub returns : goal.returns
 returns c =
     let r = c.args.r.now in
-    let s = c.at-most-one-s.ensures in
-    let a = c.at-most-one-s.result.num in
-    let b = c.at-most-one-s.result.den in
+    let s = c.at_most_one-s.ensures in
+    let a = c.at_most_one-s.result.num in
+    let b = c.at_most_one-s.result.den in
     let h = r.thinned in
     let is = s.is (can_ratio r) c.ratio.ensures.is in
     let lo : r.wall * r.wall ≤ (2 * r.can.nominal) * (2 * r.can.nominal) = mul-le-mul h.0 h.0 in

@@ -2,8 +2,8 @@ use Rattle.std.proofs.Common.{mul-le-mul, arith}
 use Rattle.powers.proofs.Nears.{product_near}
 use Rattle.powers.proofs.ops.mul.Goals as goal
 
-pub invariant-of-result : goal.invariant-of-result
-invariant-of-result c = (omega (arith, mul-le-mul c.args.x.ordered c.args.y.ordered), tt)
+pub invariant_of-result : goal.invariant_of-result
+invariant_of-result c = record { ordered = omega (arith, mul-le-mul c.args.x.ordered c.args.y.ordered) }
 
 pub returns : goal.returns
 returns c =

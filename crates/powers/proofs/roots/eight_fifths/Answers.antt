@@ -6,10 +6,10 @@ use Rattle.powers.proofs.roots.eight_fifths.Goals as goal
 
 pub returns : goal.returns
 returns c =
-    let up = c.if-not-up-to-one.ensures.yes tt in
+    let up = c.if-not-up_to_one.ensures.yes tt in
     record {
       near = λ q s _.
-          let r = c.fifth-root-x.ensures q s in
+          let r = c.fifth_root-x.ensures q s in
           let two = join (number 2 5) refl (c.mul.ensures.near r r (tt, tt, tt, tt)) in
           let three = join (number 3 5) refl (c.mul-2.ensures.near two r (tt, tt, tt, tt)) in
           weaken (join (number 8 5) refl (c.mul-3.ensures.near (first_power c.args.r c.exact.result q c.exact.ensures s up) three (tt, tt, tt, tt))) (tt, tt, tt);

@@ -3,8 +3,8 @@ use Rattle.std.proofs.lemmas.Nat.{div_below}
 use Rattle.powers.proofs.RootLaws.{fifth_near}
 use Rattle.powers.proofs.roots.fifth_root.Goals as goal
 
-pub floor-nth-root-x-requires : goal.floor-nth-root-x-requires
-floor-nth-root-x-requires c =
+pub floor_nth_root-x-requires : goal.floor_nth_root-x-requires
+floor_nth_root-x-requires c =
     let w = c.args.r.whole in
     let u = c.requires in
     record {
@@ -15,4 +15,4 @@ floor-nth-root-x-requires c =
     }
 
 pub returns : goal.returns
-returns c = λ q s. fifth_near c.args.r _ c.floor-nth-root-x.result refl refl c.floor-nth-root-x.ensures.at c.floor-nth-root-x.ensures.next q s c.requires
+returns c = λ q s. fifth_near c.args.r _ c.floor_nth_root-x.result refl refl c.floor_nth_root-x.ensures.at c.floor_nth_root-x.ensures.next q s c.requires

@@ -6,10 +6,10 @@ use Rattle.powers.proofs.roots.thirteen_fifths.Goals as goal
 
 pub returns : goal.returns
 returns c =
-    let up = c.if-not-up-to-one.ensures.yes tt in
+    let up = c.if-not-up_to_one.ensures.yes tt in
     record {
       near = λ q s _.
-          let r = c.fifth-root-x.ensures q s in
+          let r = c.fifth_root-x.ensures q s in
           let b = first_power c.args.r c.exact-b.result q c.exact-b.ensures s up in
           let square = join (number 2 1) refl (c.mul.ensures.near b b (tt, tt, tt, tt)) in
           let two = join (number 2 5) refl (c.mul-2.ensures.near r r (tt, tt, tt, tt)) in

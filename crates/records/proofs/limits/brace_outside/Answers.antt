@@ -37,4 +37,4 @@ returns c =
     let d3 = mD.3 in
     let t1 = mT.0 in
     let t8 = mT.2 in
-    simp (eD, eT, to_z-of_z) at c.first-outside.ensures
+    simp (eD, eT, to_z-of_z) at c.first_outside.ensures

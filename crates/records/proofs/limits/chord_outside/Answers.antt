@@ -16,4 +16,4 @@ returns c =
     let m4 = wide_times 2 (lit≤ tt) c.args.f.wall h1 in
     let m5 = wide_times 10 (lit≤ tt) c.args.f.wall h1 in
     let m6 = wide_times 2 (lit≤ tt) c.args.f.nominal h2 in
-    simp to_z-of_z at c.first-outside.ensures
+    simp to_z-of_z at c.first_outside.ensures

@@ -4,15 +4,15 @@ use Rattle.std.proofs.lemmas.Bool.{cond-true, cond-false}
 use Rattle.records.specs.Limits.{first_figure_outside}
 use Rattle.records.proofs.limits.first_outside.Goals as goal
 
-pub returns-then-is-outside : goal.returns-then-is-outside
+pub returns-then-is_outside : goal.returns-then-is_outside
 unfolding first_figure_outside
-returns-then-is-outside c =
-    sym (at_drop_more first_figure_outside c.args.limits.now c.loop-x.x-index _ c.loop-x-test.true ∙ cond-true _ _ _ (sym c.if-is-outside.ensures)) ∙ c.loop-x.invariant
+returns-then-is_outside c =
+    sym (at_drop_more first_figure_outside c.args.limits.now c.loop-x.x-index _ c.loop-x-test.true ∙ cond-true _ _ _ (sym c.if-is_outside.ensures)) ∙ c.loop-x.invariant
 
 pub loop-x-preserved : goal.loop-x-preserved
 unfolding first_figure_outside
 loop-x-preserved c =
-    sym (at_drop_more first_figure_outside c.args.limits.now c.loop-x.x-index _ c.loop-x-test.true ∙ cond-false _ _ _ (sym c.if-is-outside.ensures)) ∙ c.loop-x.invariant
+    sym (at_drop_more first_figure_outside c.args.limits.now c.loop-x.x-index _ c.loop-x-test.true ∙ cond-false _ _ _ (sym c.if-is_outside.ensures)) ∙ c.loop-x.invariant
 
 pub returns : goal.returns
 unfolding first_figure_outside

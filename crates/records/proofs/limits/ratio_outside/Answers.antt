@@ -11,4 +11,4 @@ returns c =
     let k1 = wide c.args.f.mi h1 in
     let h2 : SFits w64 c.args.f.mo = search rules in
     let k2 = wide c.args.f.mo h2 in
-    simp to_z-of_z at c.first-outside.ensures
+    simp to_z-of_z at c.first_outside.ensures

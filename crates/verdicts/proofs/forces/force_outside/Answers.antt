@@ -17,4 +17,4 @@ returns c =
     let k4 = wide c.args.f.mi h4 in
     let h5 : SFits w64 c.args.f.mo = search rules in
     let k5 = wide c.args.f.mo h5 in
-    simp to_z-of_z at c.first-outside.ensures
+    simp to_z-of_z at c.first_outside.ensures

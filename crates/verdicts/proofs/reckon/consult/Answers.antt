@@ -8,9 +8,9 @@ returns g c =
     let b = c.args.brace.now in
     let n = c.args.force.now in
     record {
-      k = c.in-ok-k.ensures;
-      y = knows_at m b n c.y-kind.result (kind_of_y (tension n.n)) b.shares.y c.in-ok-y.y c.y-kind.ensures c.in-ok-y.ensures;
-      x = knows_at m b n c.x-kind.result (kind_of_x (tension n.n)) b.shares.x c.in-ok-x.x c.x-kind.ensures c.in-ok-x.ensures;
-      inner = c.in-ok-inner.ensures;
-      outer = c.in-ok-outer.ensures;
+      k = c.in_ok-k.ensures;
+      y = knows_at m b n c.y_kind.result (kind_of_y (tension n.n)) b.shares.y c.in_ok-y.y c.y_kind.ensures c.in_ok-y.ensures;
+      x = knows_at m b n c.x_kind.result (kind_of_x (tension n.n)) b.shares.x c.in_ok-x.x c.x_kind.ensures c.in_ok-x.ensures;
+      inner = c.in_ok-inner.ensures;
+      outer = c.in_ok-outer.ensures;
     }

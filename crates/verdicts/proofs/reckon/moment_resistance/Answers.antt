@@ -2,8 +2,8 @@ use Rattle.std.proofs.Common.{◌*◌, ◌≤◌, mul-le-mul, mul-le-mul_left, a
 use Rattle.verdicts.proofs.Sizes.{scaled_near}
 use Rattle.verdicts.proofs.reckon.moment_resistance.Goals as goal
 
-pub invariant-of-result : goal.invariant-of-result
-invariant-of-result c =
+pub invariant_of-result : goal.invariant_of-result
+invariant_of-result c =
     let b = c.args.brace.now in
     let s = c.args.strength in
     let wide : 40 ≤ b.brace = omega arith in

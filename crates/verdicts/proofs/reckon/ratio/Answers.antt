@@ -3,27 +3,27 @@ use Rattle.std.proofs.lemmas.Nat.{div_below}
 use Rattle.verdicts.proofs.Sizes.{load_most, quotient_low, quotient_high, quotient_order, quotient_near}
 use Rattle.verdicts.proofs.reckon.ratio.Goals as goal
 
-pub overflow-cast-result : goal.overflow-cast-result
-overflow-cast-result c =
+pub overflow_cast-result : goal.overflow_cast-result
+overflow_cast-result c =
     let load = c.args.load * c.args.brace.now.sine * 100000000000 in
     let m : load ≤ 10000000000000000000000000 = load_most c.args.load c.args.brace.now.sine c.requires (omega arith) in
     let h = div_below load c.args.by.high 1000000000000000 (omega arith) (omega arith) in
     omega arith
 
-pub overflow-add-result : goal.overflow-add-result
-overflow-add-result c =
+pub overflow_add-result : goal.overflow_add-result
+overflow_add-result c =
     let m = load_most c.args.load c.args.brace.now.sine c.requires (omega arith) in
     omega arith
 
-pub overflow-cast-result-2 : goal.overflow-cast-result-2
-overflow-cast-result-2 c =
+pub overflow_cast-result-2 : goal.overflow_cast-result-2
+overflow_cast-result-2 c =
     let load = c.args.load * c.args.brace.now.sine * 100000000000 in
     let m : load ≤ 10000000000000000000000000 = load_most c.args.load c.args.brace.now.sine c.requires (omega arith) in
     let h = div_below (load + (c.args.by.low - 1)) c.args.by.low 1000000000000000 (omega arith) (omega arith) in
     omega arith
 
-pub invariant-of-result : goal.invariant-of-result
-invariant-of-result c =
+pub invariant_of-result : goal.invariant_of-result
+invariant_of-result c =
     let load = c.args.load * c.args.brace.now.sine * 100000000000 in
     let r = c.args.by in (
       quotient_order load r.low r.high (omega arith) r.ordered,

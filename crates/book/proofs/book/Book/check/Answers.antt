@@ -11,6 +11,6 @@ returns g c =
     record {
       edition = refl;
       step =
-          check_made (g.E.Edition.meaning c.args.self.now.edition) c.args.joint c.args.brace (holding c.args.self.now.tables) (holding c.note.new.self) c.in-ok-found.found
-          (simp to_z-of_z at c.in-ok-found.ensures) (simp to_z-of_z at c.in-ok-note.ensures);
+          check_made (g.E.Edition.meaning c.args.self.now.edition) c.args.joint c.args.brace (holding c.args.self.now.tables) (holding c.note.new.self) c.in_ok-found.found
+          (simp to_z-of_z at c.in_ok-found.ensures) (simp to_z-of_z at c.in_ok-note.ensures);
     }

@@ -7,13 +7,13 @@ pub returns : goal.returns
 returns g c =
     let j : SFits w64 c.args.joint = search rules in
     let b : SFits w64 c.args.brace = search rules in
-    let t : Told c.args.joint c.args.brace (holding c.args.self.now.tables) (Ok (c.in-ok-figures.figures, c.in-ok-figures.force)) = simp to_z-of_z at c.in-ok-figures.ensures in
+    let t : Told c.args.joint c.args.brace (holding c.args.self.now.tables) (Ok (c.in_ok-figures.figures, c.in_ok-figures.force)) = simp to_z-of_z at c.in_ok-figures.ensures in
     record {
       held = t.0;
       stands = t.1;
-      figures = c.in-ok-figures.figures;
+      figures = c.in_ok-figures.figures;
       carried = t.2;
-      force = c.in-ok-figures.force;
+      force = c.in_ok-figures.force;
       loaded = t.3;
-      answered = c.in-ok-found.ensures;
+      answered = c.in_ok-found.ensures;
     }

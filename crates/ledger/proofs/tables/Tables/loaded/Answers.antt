@@ -8,6 +8,6 @@ pub returns : goal.returns
 returns c =
     let j : SFits w64 c.args.joint = search rules in
     let b : SFits w64 c.args.brace = search rules in
-    let at : At c.args.joint c.args.brace (holding c.args.self.now) c.in-ok-i.i = simp to_z-of_z at c.in-ok-i.ensures in
+    let at : At c.args.joint c.args.brace (holding c.args.self.now) c.in_ok-i.i = simp to_z-of_z at c.in_ok-i.ensures in
     let same = c.index-held.ensures ∙ at.found.here _ in
     (at.found.held, at.stands, ap (λ x. x.figures) (sym same), ap (λ x. x.force) (sym same) ∙ c.in-Some.is)

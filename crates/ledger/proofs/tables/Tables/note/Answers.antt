@@ -9,7 +9,7 @@ pub returns : goal.returns
 returns c =
     let j : SFits w64 c.args.joint = search rules in
     let b : SFits w64 c.args.brace = search rules in
-    let at : At c.args.joint c.args.brace (holding c.args.self.now) c.in-ok-i.i = simp to_z-of_z at c.in-ok-i.ensures in
+    let at : At c.args.joint c.args.brace (holding c.args.self.now) c.in_ok-i.i = simp to_z-of_z at c.in_ok-i.ensures in
     let loaded : is_some c.index.result.now.force ≡ true = search rules in
     let same = ap (λ x. x.force) (sym (c.index.ensures ∙ at.found.here _)) in
-    (note_limits c.args.joint c.args.brace (holding c.args.self.now) c.in-ok-i.i at ∙ ap force_cause same ∙ has_force _ loaded, amended c.args.joint c.args.brace (brace_with_check c.args.verdict) (holding c.args.self.now) _ c.in-ok-i.i c.index.result.now c.with-check.result at c.index.ensures c.with-check.ensures refl refl)
+    (note_limits c.args.joint c.args.brace (holding c.args.self.now) c.in_ok-i.i at ∙ ap force_cause same ∙ has_force _ loaded, amended c.args.joint c.args.brace (brace_with_check c.args.verdict) (holding c.args.self.now) _ c.in_ok-i.i c.index.result.now c.with_check.result at c.index.ensures c.with_check.ensures refl refl)

@@ -12,4 +12,4 @@ loop-i-preserved c = search (rules, fold_more)
 pub returns : goal.returns
 returns c =
     let all : c.loop-i.best ≡ fold with_brace None (vec_items c.args.self.now.braces) = c.loop-i.invariant ∙ ap (fold with_brace None) (take_all c.loop-i.i (vec_items c.args.self.now.braces) (omega arith)) in
-    answers (holding c.args.self.now) _ _ all c.ok-or.ensures.value
+    answers (holding c.args.self.now) _ _ all c.ok_or.ensures.value

@@ -4,9 +4,9 @@ use Rattle.records.specs.Limits.{ratio_limits}
 use Rattle.records.proofs.Limited.{held, sized}
 use Rattle.records.proofs.ratios.Ratios.new.Goals as goal
 
-pub invariant-of-result : goal.invariant-of-result
-invariant-of-result c =
-    let h = held (ratio_limits c.args.f) (sym c.ratio-outside.ensures ∙ c.in-default.is) in
+pub invariant_of-result : goal.invariant_of-result
+invariant_of-result c =
+    let h = held (ratio_limits c.args.f) (sym c.ratio_outside.ensures ∙ c.in_default.is) in
     let p : SFits w64 c.args.f.p = search rules in
     let i : SFits w64 c.args.f.mi = search rules in
     let o : SFits w64 c.args.f.mo = search rules in

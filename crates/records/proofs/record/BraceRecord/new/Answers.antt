@@ -5,11 +5,11 @@ use Rattle.records.specs.Signs.{apart, lap}
 use Rattle.records.specs.Limits.{first_figure_outside, brace_limits, shares_sum}
 use Rattle.records.proofs.Limited.{Holding, held, natural, casts, thousand, not_thousand, bits_thousand, thousand_bits, shares_make, natural_in, gap_in}
 use Rattle.records.proofs.record.BraceRecord.new.Goals as goal
-use Rattle.records.proofs.record.BraceRecord.new.Goals.{In-default}
+use Rattle.records.proofs.record.BraceRecord.new.Goals.{In_default}
 
-module _ (c : goal.In-default) where
+module _ (c : goal.In_default) where
   none : first_figure_outside (brace_limits c.args.chord c.args.f) ≡ None
-  none = sym c.brace-outside.ensures ∙ c.in-default.is
+  none = sym c.brace_outside.ensures ∙ c.in_default.is
 
   limits : Holding (brace_limits c.args.chord c.args.f)
   limits = held (brace_limits c.args.chord c.args.f) none
@@ -101,16 +101,16 @@ module _ (c : goal.In-default) where
   from_sum : pos 0 ≤ℤ shares_sum c.args.f
   from_sum = let h = limits in omega (arith, ints)
 
-pub overflow-add-sum : goal.overflow-add-sum
-overflow-add-sum c =
-    let d = (goal.at.overflow-add-sum c).In-default in
+pub overflow_add-sum : goal.overflow_add-sum
+overflow_add-sum c =
+    let d = (goal.at.overflow_add-sum c).In_default in
     let k = fits_k d in
     let y = fits_y d in
     simp to_z-of_z (sum_fits d).0
 
-pub overflow-add-sum-2 : goal.overflow-add-sum-2
-overflow-add-sum-2 c =
-    let d = (goal.at.overflow-add-sum-2 c).In-default in
+pub overflow_add-sum-2 : goal.overflow_add-sum-2
+overflow_add-sum-2 c =
+    let d = (goal.at.overflow_add-sum-2 c).In_default in
     let k = fits_k d in
     let y = fits_y d in
     let x = fits_x d in
@@ -119,7 +119,7 @@ overflow-add-sum-2 c =
 
 pub returns-then-sum-ne1000 : goal.returns-then-sum-ne1000
 returns-then-sum-ne1000 c =
-    let d = (goal.at.returns-then-sum-ne1000 c).In-default in
+    let d = (goal.at.returns-then-sum-ne1000 c).In_default in
     let k = fits_k d in
     let y = fits_y d in
     let x = fits_x d in
@@ -127,33 +127,33 @@ returns-then-sum-ne1000 c =
     let t = (sum_fits d).1 in
     record { fault = simp to_z-of_z (rw (none d) (not_thousand (shares_sum c.args.f) (λ e. simp to_z-of_z at c.if-sum-ne1000.true (thousand_bits (shares_sum c.args.f) e)))); is = tt }
 
-pub overflow-cast-shares : goal.overflow-cast-shares
-overflow-cast-shares c = let d = (goal.at.overflow-cast-shares c).In-default in casts c.args.f.k (fits_k d) (from_k d)
+pub overflow_cast-shares : goal.overflow_cast-shares
+overflow_cast-shares c = let d = (goal.at.overflow_cast-shares c).In_default in casts c.args.f.k (fits_k d) (from_k d)
 
-pub overflow-cast-shares-2 : goal.overflow-cast-shares-2
-overflow-cast-shares-2 c = let d = (goal.at.overflow-cast-shares-2 c).In-default in casts c.args.f.y (fits_y d) (from_y d)
+pub overflow_cast-shares-2 : goal.overflow_cast-shares-2
+overflow_cast-shares-2 c = let d = (goal.at.overflow_cast-shares-2 c).In_default in casts c.args.f.y (fits_y d) (from_y d)
 
-pub overflow-cast-shares-3 : goal.overflow-cast-shares-3
-overflow-cast-shares-3 c = let d = (goal.at.overflow-cast-shares-3 c).In-default in casts c.args.f.x (fits_x d) (from_x d)
+pub overflow_cast-shares-3 : goal.overflow_cast-shares-3
+overflow_cast-shares-3 c = let d = (goal.at.overflow_cast-shares-3 c).In_default in casts c.args.f.x (fits_x d) (from_x d)
 
-pub overflow-cast-can : goal.overflow-cast-can
-overflow-cast-can c = let d = (goal.at.overflow-cast-can c).In-default in casts c.args.f.length (fits_length d) (from_length d)
+pub overflow_cast-can : goal.overflow_cast-can
+overflow_cast-can c = let d = (goal.at.overflow_cast-can c).In_default in casts c.args.f.length (fits_length d) (from_length d)
 
-pub overflow-cast-result : goal.overflow-cast-result
-overflow-cast-result c = let d = (goal.at.overflow-cast-result c).In-default in casts c.args.f.brace (fits_brace d) (from_brace d)
+pub overflow_cast-result : goal.overflow_cast-result
+overflow_cast-result c = let d = (goal.at.overflow_cast-result c).In_default in casts c.args.f.brace (fits_brace d) (from_brace d)
 
-pub overflow-cast-result-2 : goal.overflow-cast-result-2
-overflow-cast-result-2 c = let d = (goal.at.overflow-cast-result-2 c).In-default in casts c.args.f.thickness (fits_thickness d) (from_thickness d)
+pub overflow_cast-result-2 : goal.overflow_cast-result-2
+overflow_cast-result-2 c = let d = (goal.at.overflow_cast-result-2 c).In_default in casts c.args.f.thickness (fits_thickness d) (from_thickness d)
 
-pub overflow-cast-result-3 : goal.overflow-cast-result-3
-overflow-cast-result-3 c = let d = (goal.at.overflow-cast-result-3 c).In-default in casts c.args.f.fyb (fits_fyb d) (from_fyb d)
+pub overflow_cast-result-3 : goal.overflow_cast-result-3
+overflow_cast-result-3 c = let d = (goal.at.overflow_cast-result-3 c).In_default in casts c.args.f.fyb (fits_fyb d) (from_fyb d)
 
-pub overflow-cast-result-4 : goal.overflow-cast-result-4
-overflow-cast-result-4 c = let d = (goal.at.overflow-cast-result-4 c).In-default in casts c.args.f.sine (fits_sine d) (from_sine d)
+pub overflow_cast-result-4 : goal.overflow_cast-result-4
+overflow_cast-result-4 c = let d = (goal.at.overflow_cast-result-4 c).In_default in casts c.args.f.sine (fits_sine d) (from_sine d)
 
-pub invariant-of-shares : goal.invariant-of-shares
-invariant-of-shares c =
-    let d = (goal.at.invariant-of-shares c).In-default in
+pub invariant_of-shares : goal.invariant_of-shares
+invariant_of-shares c =
+    let d = (goal.at.invariant_of-shares c).In_default in
     let k = fits_k d in
     let y = fits_y d in
     let x = fits_x d in
@@ -164,9 +164,9 @@ invariant-of-shares c =
       tt,
     )
 
-pub invariant-of-result : goal.invariant-of-result
-invariant-of-result c =
-    let d = (goal.at.invariant-of-result c).In-default in
+pub invariant_of-result : goal.invariant_of-result
+invariant_of-result c =
+    let d = (goal.at.invariant_of-result c).In_default in
     let h = limits d in
     let a = is_fyb d in
     let b = is_brace d in
@@ -191,7 +191,7 @@ invariant-of-result c =
 
 pub returns : goal.returns
 returns c =
-    let d = (goal.at.returns c).In-default in
+    let d = (goal.at.returns c).In_default in
     let g = fits_gap d in
     let k = fits_k d in
     let y = fits_y d in
