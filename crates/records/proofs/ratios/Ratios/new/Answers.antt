@@ -10,4 +10,4 @@ invariant_of-result c =
     let p : SFits w64 c.args.f.p = search rules in
     let i : SFits w64 c.args.f.mi = search rules in
     let o : SFits w64 c.args.f.mo = search rules in
-    (simp to_z-of_z (sized c.args.f.p h.0 h.1, sized c.args.f.mi h.2.0 h.2.1, sized c.args.f.mo h.2.2.0 h.2.2.1), tt)
+    record { within = simp to_z-of_z (sized c.args.f.p h.0 h.1, sized c.args.f.mi h.2.0 h.2.1, sized c.args.f.mo h.2.2.0 h.2.2.1) }

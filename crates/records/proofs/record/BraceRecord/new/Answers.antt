@@ -158,11 +158,12 @@ invariant_of-shares c =
     let y = fits_y d in
     let x = fits_x d in
     let s = (sum_fits d).0 in
-    let t = (sum_fits d).1 in (
-      shares_make _ _ _ c.args.f.k c.args.f.y c.args.f.x (is_k d) (is_y d) (is_x d)
-          (bits_thousand (shares_sum c.args.f) t (from_sum d) (simp to_z-of_z at c.if-sum-ne1000.false)),
-      tt,
-    )
+    let t = (sum_fits d).1 in
+    record {
+      whole =
+          shares_make _ _ _ c.args.f.k c.args.f.y c.args.f.x (is_k d) (is_y d) (is_x d)
+          (bits_thousand (shares_sum c.args.f) t (from_sum d) (simp to_z-of_z at c.if-sum-ne1000.false));
+    }
 
 pub invariant_of-result : goal.invariant_of-result
 invariant_of-result c =
@@ -172,22 +173,18 @@ invariant_of-result c =
     let b = is_brace d in
     let t = is_thickness d in
     let s = is_sine d in
-    let g = fits_gap d in (
-      (omega arith, omega arith),
-      (
-        (omega arith, omega arith, omega arith),
-        (
-          (omega arith, omega arith),
-          (
-            (omega arith, omega arith, omega (arith, ints), omega (arith, ints)),
-            (
-              (omega (arith, ints), omega (arith, ints)),
-              ((omega (arith, ints), omega (arith, ints)), ((omega (arith, ints), omega (arith, ints)), (simp to_z-of_z (spaced d), (length_in d, tt)))),
-            ),
-          ),
-        ),
-      ),
-    )
+    let g = fits_gap d in
+    record {
+      size = (omega arith, omega arith);
+      thick = (omega arith, omega arith, omega arith);
+      thinned = (omega arith, omega arith);
+      strong = (omega arith, omega arith, omega (arith, ints), omega (arith, ints));
+      slim = (omega (arith, ints), omega (arith, ints));
+      walls = (omega (arith, ints), omega (arith, ints));
+      steep = (omega (arith, ints), omega (arith, ints));
+      spaced = simp to_z-of_z (spaced d);
+      canned = length_in d;
+    }
 
 pub returns : goal.returns
 returns c =

@@ -52,7 +52,12 @@ invariant_of-result c =
     let t = is_wall (goal.at.invariant_of-result c).In_default in
     let n = is_nominal (goal.at.invariant_of-result c).In_default in
     let y = is_fy (goal.at.invariant_of-result c).In_default in
-    ((omega (arith, ints), omega (arith, ints)), ((omega (arith, ints), omega (arith, ints), omega (arith, ints)), ((omega (arith, ints), omega (arith, ints)), ((omega (arith, ints), omega (arith, ints)), tt))))
+    record {
+      size = (omega (arith, ints), omega (arith, ints));
+      thick = (omega (arith, ints), omega (arith, ints), omega (arith, ints));
+      thinned = (omega (arith, ints), omega (arith, ints));
+      strong = (omega (arith, ints), omega (arith, ints));
+    }
 
 pub returns : goal.returns
 returns c =
