@@ -1,5 +1,5 @@
 -- Small laws of what the tables of formulas are made of.
-use Rattle.std.proofs.Common.{◌≡◌, ℕ, ◌+◌, ◌-◌, ◌*◌, ◌^◌, ◌<◌, ◌≤◌, T, leb, ap, mul-le-mul_right, mul-le-mul, mul-pos, arith, leb→le}
+use Rattle.std.proofs.Common.{◌≡◌, ℕ, ◌+◌, ◌*◌, ◌^◌, ◌<◌, ◌≤◌, T, leb, ap, mul-le-mul_right, mul-le-mul, mul-pos, arith, leb→le}
 use Rattle.powers.specs.Fractions.{◌≤ᶠ◌}
 use Rattle.powers.specs.Enclosures.{units}
 

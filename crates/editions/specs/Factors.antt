@@ -8,7 +8,7 @@
 --     Factor z φ          z encloses the factor φ, lies between 1.34 and 990, and is less than a part in a million wide
 --
 -- That these rows are those of the printed standards is not proved: docs/RULES.md has them to compare. Assumes nothing.
-use Rattle.std.specs.Prelude.{◌-◌, ◌*◌, ◌<◌, cond}
+use Rattle.std.specs.Prelude.{◌<◌, cond}
 use Rattle.std.proofs.Common.{mul-pos, arith}
 use Rattle.powers.specs.declared.ends.Ends.{Ends}
 use Rattle.powers.specs.Fractions.{Fraction, number, positive_of, ◌+ᶠ◌, ◌−ᶠ◌, ◌*ᶠ◌, ◌÷◌}

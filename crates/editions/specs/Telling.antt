@@ -1,5 +1,5 @@
 -- From the ends of a factor to what an edition tells, once for every table of formulas.
-use Rattle.std.specs.Prelude.{ℕ, ◌+◌, ◌-◌, ◌*◌, ◌^◌, ◌≤◌}
+use Rattle.std.specs.Prelude.{ℕ, ◌+◌, ◌*◌, ◌^◌, ◌≤◌}
 use Rattle.std.proofs.Common.{arith}
 use Rattle.powers.specs.declared.ends.Ends.{Ends}
 use Rattle.powers.specs.declared.quotient.Quotient.{Quotient}

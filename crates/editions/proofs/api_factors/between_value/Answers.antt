@@ -1,4 +1,4 @@
-use Rattle.std.proofs.Common.{◌≡◌, ◌+◌, ◌-◌, ◌*◌, ◌≤◌, arith, lit≤}
+use Rattle.std.proofs.Common.{◌≡◌, ◌+◌, ◌-◌, ◌*◌, arith, lit≤}
 use Rattle.powers.specs.Fractions.{number, ◌*ᶠ◌}
 use Rattle.powers.specs.Enclosures.{units, milli}
 use Rattle.powers.proofs.Laws.{le_refl, less, weaken, lift}

@@ -1,4 +1,4 @@
-use Rattle.std.proofs.Common.{◌≡◌, ◌-◌, ◌*◌, mul-le-mul, arith}
+use Rattle.std.proofs.Common.{◌≡◌, ◌*◌, mul-le-mul, arith}
 use Rattle.editions.proofs.api_factors.cube.Goals as goal
 
 pub times-requires-2 : goal.times-requires-2

@@ -1,4 +1,4 @@
-use Rattle.std.proofs.Common.{◌-◌, subst}
+use Rattle.std.proofs.Common.{subst}
 use Rattle.powers.specs.Enclosures.{Near, milli}
 use Rattle.powers.proofs.Laws.{weaken}
 use Rattle.editions.specs.Api.{q_g}

@@ -9,7 +9,7 @@ use Rattle.editions.proofs.api_factors.gap_value.Goals as goal
 pub invariant_of-exact : goal.invariant_of-exact
 invariant_of-exact c =
     let p = diameter_positive c.args.r.now in
-    (omega (arith, c.cube-whole.ensures.is, mul-pos (mul-pos p p) p), tt)
+    record { whole = omega (arith, c.cube-whole.ensures.is, mul-pos (mul-pos p p) p) }
 
 pub returns : goal.returns
 returns c =

@@ -1,6 +1,5 @@
-use Rattle.std.proofs.Common.{◌+◌, ◌-◌, ◌*◌, arith}
+use Rattle.std.proofs.Common.{arith}
 use Rattle.powers.specs.Fractions.{number, ◌+ᶠ◌, ◌*ᶠ◌}
-use Rattle.powers.specs.Formulas.{power}
 use Rattle.powers.specs.Enclosures.{milli}
 use Rattle.powers.proofs.Laws.{weaken}
 use Rattle.editions.specs.Figures.{beta, gamma}

@@ -1,6 +1,5 @@
-use Rattle.std.proofs.Common.{◌≡◌, ℕ, ◌+◌, ◌-◌, ◌*◌, ◌≤◌, refl, arith, lit≤}
+use Rattle.std.proofs.Common.{◌≡◌, ℕ, ◌+◌, ◌*◌, refl, arith, lit≤}
 use Rattle.powers.specs.Fractions.{number, ◌+ᶠ◌, ◌*ᶠ◌}
-use Rattle.powers.specs.Formulas.{power}
 use Rattle.powers.specs.Enclosures.{milli}
 use Rattle.powers.proofs.Laws.{weaken, at_most_near}
 use Rattle.editions.specs.Figures.{beta, gamma}

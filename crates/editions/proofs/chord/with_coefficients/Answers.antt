@@ -1,4 +1,4 @@
-use Rattle.std.proofs.Common.{◌≡◌, ℕ, ◌+◌, ◌-◌, ◌*◌, ◌≤◌, ap, ◌∙◌, mul-le-mul, arith}
+use Rattle.std.proofs.Common.{◌≡◌, ℕ, ◌+◌, ◌*◌, ◌≤◌, ap, ◌∙◌, mul-le-mul, arith}
 use borrow.Author.Differences.{up, down}
 use Rattle.records.specs.Signs.{size}
 use Rattle.editions.specs.Chords.{api_q_f}

@@ -1,4 +1,4 @@
-use Rattle.std.proofs.Common.{◌≡◌, ◌+◌, ◌-◌, ◌*◌, arith}
+use Rattle.std.proofs.Common.{◌≡◌, ◌+◌, ◌*◌, arith}
 use Rattle.records.specs.Signs.{size}
 use Rattle.editions.specs.Chords.{iso_q_f}
 use Rattle.editions.proofs.Terms.{is_same}

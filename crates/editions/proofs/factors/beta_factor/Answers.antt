@@ -9,7 +9,7 @@ invariant_of-result-2 c =
     let r = c.args.r.now in
     let l = r.slim in
     let p = diameter_positive r in
-    (q_beta_den r.diameter r.brace c.times.result c.times-2.result _ 0 c.times.ensures c.times-2.ensures (omega arith) (omega arith), tt)
+    record { whole = q_beta_den r.diameter r.brace c.times.result c.times-2.result _ 0 c.times.ensures c.times-2.ensures (omega arith) (omega arith) }
 
 pub returns : goal.returns
 returns c =

@@ -1,4 +1,4 @@
-use Rattle.std.proofs.Common.{◌-◌, ◌*◌, ◌≤◌, refl, mul-le-mul, arith, lit≤}
+use Rattle.std.proofs.Common.{◌*◌, ◌≤◌, refl, mul-le-mul, arith, lit≤}
 use Rattle.powers.specs.Fractions.{number, ◌*ᶠ◌}
 use Rattle.powers.specs.Enclosures.{milli}
 use Rattle.powers.proofs.Laws.{weaken}

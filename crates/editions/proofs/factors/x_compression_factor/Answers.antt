@@ -1,4 +1,4 @@
-use Rattle.std.proofs.Common.{◌+◌, ◌-◌, ◌*◌, ◌≤◌, refl, arith, lit≤}
+use Rattle.std.proofs.Common.{refl, arith, lit≤}
 use Rattle.powers.specs.Fractions.{number, ◌+ᶠ◌, ◌*ᶠ◌}
 use Rattle.powers.specs.Enclosures.{milli}
 use Rattle.powers.proofs.Laws.{weaken, bound_is, bound_is_above}

@@ -1,4 +1,4 @@
-use Rattle.std.proofs.Common.{◌≡◌, ◌+◌, ◌-◌, ◌*◌, ◌≤◌, refl, arith, lit≤}
+use Rattle.std.proofs.Common.{◌≡◌, ◌+◌, ◌-◌, ◌*◌, refl, arith, lit≤}
 use Rattle.powers.specs.Fractions.{number, ◌*ᶠ◌}
 use Rattle.powers.specs.Formulas.{constant, power, ◌⊖◌}
 use Rattle.powers.specs.Enclosures.{units, milli}

@@ -1,4 +1,4 @@
-use Rattle.std.proofs.Common.{◌-◌, ◌≤◌, refl, inr, arith, lit≤}
+use Rattle.std.proofs.Common.{refl, inr, arith, lit≤}
 use Rattle.powers.specs.Fractions.{number}
 use Rattle.powers.specs.Formulas.{constant}
 use Rattle.powers.specs.Enclosures.{Near, milli}

@@ -1,4 +1,3 @@
-use Rattle.std.proofs.Common.{◌-◌}
 use Rattle.powers.proofs.Laws.{weaken}
 use Rattle.editions.proofs.iso_factors.k_axial.Goals as goal
 

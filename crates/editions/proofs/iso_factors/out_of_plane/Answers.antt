@@ -1,6 +1,5 @@
-use Rattle.std.proofs.Common.{◌-◌, ◌*◌, ◌≤◌, refl, mul-le-mul, mul-pos, arith, lit≤}
+use Rattle.std.proofs.Common.{◌*◌, ◌≤◌, refl, mul-le-mul, mul-pos, arith, lit≤}
 use Rattle.powers.specs.Fractions.{number, ◌*ᶠ◌}
-use Rattle.powers.specs.Formulas.{power}
 use Rattle.powers.specs.Enclosures.{milli}
 use Rattle.powers.proofs.Laws.{weaken}
 use Rattle.editions.specs.Figures.{beta, gamma, diameter_positive}
