@@ -26,7 +26,7 @@ invariant_of-result c =
     let p = wall_positive c.args.r.now in
     let w = c.at_most_one-s.result.whole in
     let t : 0 < c.squared-thick.result = omega (arith, c.squared-thick.ensures.is, mul-pos p p) in
-    (omega (arith, c.times-3.ensures, mul-pos w t), tt)
+    record { whole = omega (arith, c.times-3.ensures, mul-pos w t) }
 
 pub returns : goal.returns
 returns c =
