@@ -62,7 +62,7 @@ module _ (m : Meaning) (u : Usable m) (l k : Ledger) (s : Standing m l) where
   checks {j} {b} v t =
       let n = t.noted in
       let f = t.found in
-      let here = standing_found j b l n.joint n.number f.held n.joint-numbered n.numbered f.stands in
+      let here = standing_found j b l n.joint n.number f.held n.joint_numbered n.numbered f.stands in
       let answered = subst (λ x. Answered m x f.force v) (sym f.carried) f.answered in
       subst (All (Stands m)) (sym n.braces)
       (all_amend (Stands m) (is_brace n.joint n.number) (brace_with_check v) l.braces

@@ -21,7 +21,7 @@ use verdicts::reckon::verdict;
 use verdicts::verdict::Verdict;
 
 fn usable<E: Edition>(edition: &E) -> Result<(), Unusable>
-    ensures { MatchResult result (λ _. Usable (meaning edition.now)) (λ u. open_cause (meaning edition.now) ≡ Some (unusable_cause u)) }
+    ensures { MatchResult result (λ _. Usable (E.meaning edition.now)) (λ u. open_cause (E.meaning edition.now) ≡ Some (unusable_cause u)) }
 {
     let width = edition.width();
     if width > 700 {
@@ -36,7 +36,7 @@ fn usable<E: Edition>(edition: &E) -> Result<(), Unusable>
 
 // Empty tables for an edition that a book can be kept by.
 fn tables_for<E: Edition>(heap: Global, edition: &E) -> Result<Tables, Obstacle>
-    ensures { MatchResult result (λ t. (holding t ≡ empty) × Usable (meaning edition.now)) (Hindered (meaning edition.now)) }
+    ensures { MatchResult result (λ t. (holding t ≡ empty) × Usable (E.meaning edition.now)) (Hindered (E.meaning edition.now)) }
 {
     usable(edition)?;
     let tables = Tables::new(heap)?;
@@ -73,7 +73,7 @@ fn answer_found(r: Result<Worst, Refusal>) -> Answer
 impl<E: Edition> Book<E> {
     // An empty book, or the edition back. No later call on the book asks for memory.
     pub fn new(heap: Global, edition: E) -> Result<Book<E>, Unopened<E>>
-        ensures { MatchResult result (Opened meaning edition) (Closed meaning edition) }
+        ensures { MatchResult result (Opened E.meaning edition) (Closed E.meaning edition) }
     {
         match tables_for(heap, &edition) {
             Ok(tables) => Ok(Book { edition, tables }),
@@ -107,7 +107,7 @@ impl<E: Edition> Book<E> {
 
     // What a check answers, with nothing written down.
     fn find(&self, joint: i64, brace: i64) -> Result<Verdict, Refusal>
-        ensures { Finds (meaning self.now.edition) joint brace (ledger_of self.now) result }
+        ensures { Finds (E.meaning self.now.edition) joint brace (ledger_of self.now) result }
     {
         let (figures, force) = self.tables.loaded(joint, brace)?;
         let found = verdict(&self.edition, &figures, &force)?;
@@ -115,7 +115,7 @@ impl<E: Edition> Book<E> {
     }
 
     pub fn check(&mut self, joint: i64, brace: i64) -> Result<Verdict, Refusal>
-        ensures { Moves self.old self.new (λ l k. Checks (meaning self.old.edition) joint brace l k result) }
+        ensures { Moves self.old self.new (λ l k. Checks (E.meaning self.old.edition) joint brace l k result) }
     {
         let found = self.find(joint, brace)?;
         self.tables.note(joint, brace, found)?;
@@ -129,7 +129,7 @@ impl<E: Edition> Book<E> {
     }
 
     pub fn call(&mut self, call: Call) -> Answer
-        ensures { Moves self.old self.new (λ l k. Step (meaning self.old.edition) l call result k) }
+        ensures { Moves self.old self.new (λ l k. Step (E.meaning self.old.edition) l call result k) }
     {
         match call {
             Call::Enter { joint, figures } => answer_done(self.enter(joint, figures)),

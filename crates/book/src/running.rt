@@ -18,7 +18,7 @@ pub fn perform<E: Edition>(
     book: &mut Book<E>,
     calls: &[Call],
 ) -> Result<Vec<Answer>, AllocError>
-    ensures { MatchResult result (λ v. Performed meaning book.old calls.now v.items book.new) (λ _. book.new ≡ book.old) }
+    ensures { MatchResult result (λ v. Performed E.meaning book.old calls.now v.items book.new) (λ _. book.new ≡ book.old) }
 {
     let mut answers = Vec::with_capacity(heap, calls.len())?;
     for call in calls {
@@ -43,7 +43,7 @@ fn given_up<E: Edition>(book: Book<E>) -> Unopened<E>
 
 // The whole promise: a new book by any edition, and any calls on it.
 pub fn run<E: Edition>(heap: Global, edition: E, calls: &[Call]) -> Result<Run<E>, Unopened<E>>
-    ensures { MatchResult result (λ x. Ran meaning edition calls.now x.answers.items x.book) (Closed meaning edition) }
+    ensures { MatchResult result (λ x. Ran E.meaning edition calls.now x.answers.items x.book) (Closed E.meaning edition) }
 {
     let mut book = Book::new(heap, edition)?;
     let Ok(answers) = perform(heap, &mut book, calls) else {

@@ -63,7 +63,7 @@ pub amended : (j b : ℤ) (f : Brace → Brace) (l m : Ledger) (i : ℕ) (y z : 
 amended j b f l m i y z at here changed joints braces = record {
   joint = at.joint;
   number = at.number;
-  joint_numbered = at.joint-numbered;
+  joint_numbered = at.joint_numbered;
   numbered = at.numbered;
   joints = joints;
   braces = braces ∙ ap (set l.braces i) (changed ∙ ap f (here ∙ at.found.here y)) ∙ sym (at.found.writes f);

@@ -1,11 +1,11 @@
 -- The reckoners are bound by what an edition told.
-use Rattle.std.proofs.Common.{◌≡◌, ℕ, ◌+◌, ◌*◌, ◌<◌, ◌≤◌, Bool, true, false, nat_abs, None, sym, refl, subst, arith, lit<}
+use Rattle.std.proofs.Common.{◌≡◌, ℕ, ◌+◌, ◌*◌, ◌<◌, ◌≤◌, Bool, true, false, nat_abs, sym, refl, subst, arith, lit<}
 use Rattle.powers.specs.Fractions.{Positive, positive_of, ◌≤ᶠ◌, ◌÷◌}
-use Rattle.verdicts.specs.Reckoners.{squared, Strengths, tension, kind_of_y, kind_of_x, millimetres, moment_resistance, ratio, utilisation}
+use Rattle.verdicts.specs.Reckoners.{squared, Strengths, InUse, tension, kind_of_y, kind_of_x, millimetres, moment_resistance, ratio, utilisation}
+use Rattle.editions.specs.Meanings.{Meaning, Lawful, Usable, Enclosed, millionths}
 use Rattle.records.specs.declared.kind.Kind.{Kind}
 use Rattle.records.specs.declared.kind.Kind.TheVariants.{KAxial, YTension, YCompression, XTension, XCompression, InPlane, OutOfPlane}
 use Rattle.records.specs.declared.record.BraceRecord.{BraceRecord}
-use Rattle.editions.specs.Meanings.{Meaning, Lawful, Usable, Enclosed, millionths}
 use Rattle.powers.proofs.Laws.{le_refl, lt_le_trans}
 use Rattle.verdicts.specs.declared.force.Force.{Force}
 use Rattle.verdicts.specs.declared.ends.Known.{Known}
@@ -16,10 +16,9 @@ use Rattle.verdicts.specs.declared.verdict.Ends.{Ends}
 use Rattle.verdicts.specs.declared.verdict.Part.TheVariants.{AxialForce, InPlaneMoment, OutOfPlaneMoment}
 use Rattle.verdicts.specs.declared.verdict.Verdict.{Verdict}
 use Rattle.verdicts.specs.declared.verdict.Verdict.TheVariants.{Pass, Fail, Near, Far}
-use Rattle.verdicts.specs.Bindings.{Between, Binds, Enclosing, first_spent, Reckoners}
+use Rattle.verdicts.specs.Bindings.{Between, Binds, Enclosing, NoneSpent, Reckoners}
 use Rattle.verdicts.specs.Verdicts.{Tens, Worked}
 use Rattle.verdicts.specs.Steps.{Summed, Follows, Sound, KnownOf, Knows, Knowing, Encloses, based}
-use Rattle.verdicts.proofs.Uses.{none_found, all_used, used_k, used_y, used_x, used_inner, used_outer}
 use Rattle.verdicts.proofs.Sizes.{told_near}
 use Rattle.verdicts.proofs.Resists.{ratio_low, ratio_high, average_le, average_ge, lever_le, lever_ge}
 use Rattle.verdicts.proofs.Sums.{sum_low, sum_high, sum_close, first_le, second_le, third_le, over_ten, over_one, square_over_one, under_one}
@@ -43,9 +42,34 @@ known_of m b n k low high e t h = record { unspent = t.unspent; enclosed = λ u.
     same : (e.low ≡ low) × (e.high ≡ high) → Enclosed m b n.ratios k e.low e.high
     same (p, q) = subst (λ (l : ℕ). Enclosed m b n.ratios k l e.high) (sym p) (subst (λ (h : ℕ). Enclosed m b n.ratios k low h) (sym q) t)
 
-pub none_spent : (m : Meaning) (b : BraceRecord) (n : Force) (c : Consulted) → Knowing m b n c → first_spent m b n ≡ None
-none_spent m b n c t =
-    none_found b n (m.spent b n.ratios) (λ h. (t.k h).unspent) (λ h. (t.y h).unspent) (λ h. (t.x h).unspent) (t.inner (lit< tt)).unspent (t.outer (lit< tt)).unspent
+-- The kinds in use, class by class.
+pub y_in_use : (b : BraceRecord) (n : Force) → 0 < b.shares.y → InUse b n (kind_of_y (tension n.n))
+y_in_use b n h = go (tension n.n) refl
+  where
+    go : (t : Bool) → tension n.n ≡ t → InUse b n (kind_of_y t)
+    go true e = (e, h)
+    go false e = (e, h)
+
+pub x_in_use : (b : BraceRecord) (n : Force) → 0 < b.shares.x → InUse b n (kind_of_x (tension n.n))
+x_in_use b n h = go (tension n.n) refl
+  where
+    go : (t : Bool) → tension n.n ≡ t → InUse b n (kind_of_x t)
+    go true e = (e, h)
+    go false e = (e, h)
+
+pub each_in_use : (b : BraceRecord) (n : Force) (P : Kind → Type 0) → (0 < b.shares.k → P KAxial) → (0 < b.shares.y → P (kind_of_y (tension n.n)))
+    → (0 < b.shares.x → P (kind_of_x (tension n.n))) → P InPlane → P OutOfPlane → (k : Kind) → InUse b n k → P k
+each_in_use b n P k y x i o KAxial u = k u
+each_in_use b n P k y x i o YTension (e, h) = subst (λ (t : Bool). P (kind_of_y t)) e (y h)
+each_in_use b n P k y x i o YCompression (e, h) = subst (λ (t : Bool). P (kind_of_y t)) e (y h)
+each_in_use b n P k y x i o XTension (e, h) = subst (λ (t : Bool). P (kind_of_x t)) e (x h)
+each_in_use b n P k y x i o XCompression (e, h) = subst (λ (t : Bool). P (kind_of_x t)) e (x h)
+each_in_use b n P k y x i o InPlane u = i
+each_in_use b n P k y x i o OutOfPlane u = o
+
+pub none_spent : (m : Meaning) (b : BraceRecord) (n : Force) (c : Consulted) → Knowing m b n c → NoneSpent m b n
+none_spent m b n c t = each_in_use b n (λ k. m.spent b n.ratios k ≡ false) (λ h. (t.k h).unspent) (λ h. (t.y h).unspent) (λ h. (t.x h).unspent)
+    (t.inner (lit< tt)).unspent (t.outer (lit< tt)).unspent
 
 module _ (m : Meaning) (w : Lawful m) (u : Usable m) (b : BraceRecord) (n : Force) where
   -- one strength
@@ -64,16 +88,16 @@ module _ (m : Meaning) (w : Lawful m) (u : Usable m) (b : BraceRecord) (n : Forc
       cautious = λ f u.
           ratio_low b (nat_abs n.n) (b.shares.k * c.k.high + b.shares.y * c.y.high + b.shares.x * c.x.high) e.low _
           (average_le b.shares.k b.shares.y b.shares.x c.k.high c.y.high c.x.high _ _ _
-          (cautious_le KAxial b.shares.k c.k (f KAxial) t.k (used_k b n _ u))
-          (cautious_le (kind_of_y (tension n.n)) b.shares.y c.y (f (kind_of_y (tension n.n))) t.y (used_y b n _ u))
-          (cautious_le (kind_of_x (tension n.n)) b.shares.x c.x (f (kind_of_x (tension n.n))) t.x (used_x b n _ u)))
+          (cautious_le KAxial b.shares.k c.k (f KAxial) t.k (u KAxial))
+          (cautious_le (kind_of_y (tension n.n)) b.shares.y c.y (f (kind_of_y (tension n.n))) t.y (λ s. u _ (y_in_use b n s)))
+          (cautious_le (kind_of_x (tension n.n)) b.shares.x c.x (f (kind_of_x (tension n.n))) t.x (λ s. u _ (x_in_use b n s))))
           (rw (← l, ← q) h.low);
       bold = λ f u.
           ratio_high b (nat_abs n.n) (b.shares.k * c.k.low + b.shares.y * c.y.low + b.shares.x * c.x.low) e.high _
           (average_ge b.shares.k b.shares.y b.shares.x c.k.low c.y.low c.x.low _ _ _
-          (bold_ge KAxial b.shares.k c.k (f KAxial) t.k (used_k b n _ u))
-          (bold_ge (kind_of_y (tension n.n)) b.shares.y c.y (f (kind_of_y (tension n.n))) t.y (used_y b n _ u))
-          (bold_ge (kind_of_x (tension n.n)) b.shares.x c.x (f (kind_of_x (tension n.n))) t.x (used_x b n _ u)))
+          (bold_ge KAxial b.shares.k c.k (f KAxial) t.k (u KAxial))
+          (bold_ge (kind_of_y (tension n.n)) b.shares.y c.y (f (kind_of_y (tension n.n))) t.y (λ s. u _ (y_in_use b n s)))
+          (bold_ge (kind_of_x (tension n.n)) b.shares.x c.x (f (kind_of_x (tension n.n))) t.x (λ s. u _ (x_in_use b n s))))
           (rw (← l, ← p) h.high);
     }
 
@@ -95,15 +119,15 @@ module _ (m : Meaning) (w : Lawful m) (u : Usable m) (b : BraceRecord) (n : Forc
   pub inner_between : (e : Known) (r : Resistance) (x : Ratio) (load : ℕ) → load ≡ nat_abs n.my → Knows m b n InPlane 1 e
       → r.low ≡ based b (b.brace * e.low) → r.high ≡ based b (b.brace * e.high) → Encloses load b r x → Between m b n (ratio b n InPlaneMoment) x.low x.high
   inner_between e r x load l t p q h = record {
-    cautious = λ f u. rw (← l) (moment_low InPlane e r x load (f InPlane) t (used_inner b n _ u) q h);
-    bold = λ f u. rw (← l) (moment_high InPlane e r x load (f InPlane) t (used_inner b n _ u) p h);
+    cautious = λ f u. rw (← l) (moment_low InPlane e r x load (f InPlane) t (u InPlane tt) q h);
+    bold = λ f u. rw (← l) (moment_high InPlane e r x load (f InPlane) t (u InPlane tt) p h);
   }
 
   pub outer_between : (e : Known) (r : Resistance) (x : Ratio) (load : ℕ) → load ≡ nat_abs n.mz → Knows m b n OutOfPlane 1 e
       → r.low ≡ based b (b.brace * e.low) → r.high ≡ based b (b.brace * e.high) → Encloses load b r x → Between m b n (ratio b n OutOfPlaneMoment) x.low x.high
   outer_between e r x load l t p q h = record {
-    cautious = λ f u. rw (← l) (moment_low OutOfPlane e r x load (f OutOfPlane) t (used_outer b n _ u) q h);
-    bold = λ f u. rw (← l) (moment_high OutOfPlane e r x load (f OutOfPlane) t (used_outer b n _ u) p h);
+    cautious = λ f u. rw (← l) (moment_low OutOfPlane e r x load (f OutOfPlane) t (u OutOfPlane tt) q h);
+    bold = λ f u. rw (← l) (moment_high OutOfPlane e r x load (f OutOfPlane) t (u OutOfPlane tt) p h);
   }
 
 abbrev ends_of : Ratio → Ends
@@ -196,13 +220,13 @@ high_of e = positive_of (millionths e.high) (omega arith)
 pub reckoners : (m : Meaning) → Lawful m → Usable m → (b : BraceRecord) (n : Force) (c : Consulted) → Knowing m b n c → Reckoners m b n
 reckoners m w u b n c t = record {
   careful = lows;
-  is_careful = all_used b n (λ k. m.notAbove b n.ratios k (lows k))
+  is_careful = each_in_use b n (λ k. m.notAbove b n.ratios k (lows k))
       (λ h. ((t.k h).enclosed u).under _)
       (λ h. rw (y_class _ _ _ _ _ (tension n.n)) (((t.y h).enclosed u).under _))
       (λ h. rw (x_class _ _ _ _ _ (tension n.n)) (((t.x h).enclosed u).under _))
       (((t.inner (lit< tt)).enclosed u).under _) (((t.outer (lit< tt)).enclosed u).under _);
   daring = highs;
-  is_daring = all_used b n (λ k. m.notBelow b n.ratios k (highs k))
+  is_daring = each_in_use b n (λ k. m.notBelow b n.ratios k (highs k))
       (λ h. w.up _ _ _ (positive_of (millionths c.k.high) ((t.k h).enclosed u).positive) (high_of c.k) le_refl ((t.k h).enclosed u).over)
       (λ h. rw (y_class _ _ _ _ _ (tension n.n)) (w.up _ _ _ (positive_of (millionths c.y.high) ((t.y h).enclosed u).positive) (high_of c.y) le_refl ((t.y h).enclosed u).over))
       (λ h. rw (x_class _ _ _ _ _ (tension n.n)) (w.up _ _ _ (positive_of (millionths c.x.high) ((t.x h).enclosed u).positive) (high_of c.x) le_refl ((t.x h).enclosed u).over))

@@ -1,5 +1,5 @@
 -- Bounds of the numbers that a check works with.
-use Rattle.std.proofs.Common.{◌≡◌, ℕ, ◌+◌, ◌-◌, ◌*◌, ◌/◌, ◌^◌, ◌<◌, ◌≤◌, sym, subst, mul-le-mul, mul-le-mul_left, div-mul-le_self, le_of_mul-le-mul_right, arith}
+use Rattle.std.proofs.Common.{◌≡◌, ℕ, ◌+◌, ◌-◌, ◌*◌, ◌/◌, ◌<◌, ◌≤◌, sym, subst, mul-le-mul, mul-le-mul_left, div-mul-le_self, le_of_mul-le-mul_right, arith}
 use native.Mathlib.Nat.{lt-div-mul-add}
 
 pub wall_least : (f w : ℕ) → 200 ≤ f → 60 ≤ w → 720000 ≤ f * (w * w)
@@ -61,7 +61,7 @@ module _ (load low high : ℕ) (firm : 0 < low) (order : low ≤ high) where
 
 -- The sizes of a resistance r times l to r times h.
 abbrev Sized : ℕ → ℕ → ℕ → Type 0
-Sized r l h = (100000000000 ≤ r * l) × ((r * l ≤ r * h) × ((r * h ≤ 100000000000000000000000) × ((r * h * 1000000 ≤ r * l * 1000700) × Unit {0})))
+Sized r l h = (100000000000 ≤ r * l) × (r * l ≤ r * h) × (r * h ≤ 100000000000000000000000) × (r * h * 1000000 ≤ r * l * 1000700)
 
 pub sized_at : (r a b l h : ℕ) → l ≡ a → h ≡ b → Sized r a b → Sized r l h
 sized_at r a b l h p q s = subst (λ x. Sized r x h) (sym p) (subst (λ y. Sized r a y) (sym q) s)

@@ -5,18 +5,18 @@
 --     Between m b n found low high    what a cautious reckoner finds is at least low millionths, and what a bold one finds at most high
 --     Enclosing m b n e      the ends e lie so about the utilisation, and are at most a 400th of the lower and 20 millionths apart
 --     Passing, Failing, Nearing, Faring, Binds    what each verdict says
---     find p xs              the first of xs that passes p
---     first_spent m b n      the first kind in use for which the chord is spent, if there is one
+--     FirstSpent m b n k     k is the first kind in use for which the chord is spent
+--     NoneSpent m b n        there is none
 --     Reckoners m b n        there are a cautious and a bold reckoner, so that no promise to them is empty
 --
 -- Assumes nothing.
-use Rattle.std.specs.Prelude.{ℕ, ◌+◌, ◌*◌, ◌<◌, ◌≤◌, Bool, cond, List, [], ◌∷◌, Some, None, Option}
-use Rattle.std.specs.List.{AllByRecursion as All}
+use Rattle.std.specs.Prelude.{◌≡◌, ℕ, ◌+◌, ◌*◌, ◌<◌, ◌≤◌, true, false}
 use Rattle.powers.specs.Fractions.{Fraction, ◌≤ᶠ◌, ◌<ᶠ◌}
-use Rattle.verdicts.specs.Reckoners.{whole_number, Strengths, kinds_in_use, ratio, utilisation}
+use Rattle.verdicts.specs.Reckoners.{whole_number, Strengths, InUse, ratio, utilisation}
+use Rattle.records.specs.Kinds.{number}
+use Rattle.editions.specs.Meanings.{Meaning, millionths}
 use Rattle.records.specs.declared.kind.Kind.{Kind}
 use Rattle.records.specs.declared.record.BraceRecord.{BraceRecord}
-use Rattle.editions.specs.Meanings.{Meaning, millionths}
 use Rattle.verdicts.specs.declared.force.Force.{Force}
 use Rattle.verdicts.specs.declared.verdict.Part.{Part}
 use Rattle.verdicts.specs.declared.verdict.Ends.{Ends}
@@ -25,10 +25,10 @@ use Rattle.verdicts.specs.declared.verdict.Verdict.TheVariants.{Pass, Fail, Near
 
 -- A reckoner who never takes more than a strength, and one who never takes less.
 abbrev pub Cautious : Meaning → BraceRecord → Force → Strengths → Type 0
-Cautious m b n f = All (λ k. m.notAbove b n.ratios k (f k)) (kinds_in_use b n)
+Cautious m b n f = (k : Kind) → InUse b n k → m.notAbove b n.ratios k (f k)
 
 abbrev pub Bold : Meaning → BraceRecord → Force → Strengths → Type 0
-Bold m b n f = All (λ k. m.notBelow b n.ratios k (f k)) (kinds_in_use b n)
+Bold m b n f = (k : Kind) → InUse b n k → m.notBelow b n.ratios k (f k)
 
 -- The ends lie on either side of what the reckoners find.
 pub record Between (m : Meaning) (b : BraceRecord) (n : Force) (found : Strengths → Fraction) (low high : ℕ) : Type 0 where
@@ -66,12 +66,14 @@ Binds m b n (Fail e) = Failing m b n e
 Binds m b n (Near e) = Nearing m b n e
 Binds m b n (Far p) = Faring m b n p
 
-abbrev pub find : {X : Type 0} → (X → Bool) → List X → Option X
-find p [] = None
-find p (x ∷ xs) = cond (p x) (Some x) (find p xs)
+-- The first kind in use for which the chord is spent.
+pub record FirstSpent (m : Meaning) (b : BraceRecord) (n : Force) (k : Kind) : Type 0 where
+  pub used : InUse b n k
+  pub spent : m.spent b n.ratios k ≡ true
+  pub first : (j : Kind) → number j < number k → InUse b n j → m.spent b n.ratios j ≡ false
 
-abbrev pub first_spent : Meaning → BraceRecord → Force → Option Kind
-first_spent m b n = find (m.spent b n.ratios) (kinds_in_use b n)
+abbrev pub NoneSpent : Meaning → BraceRecord → Force → Type 0
+NoneSpent m b n = (k : Kind) → InUse b n k → m.spent b n.ratios k ≡ false
 
 -- There are such reckoners: no promise to them is empty.
 pub record Reckoners (m : Meaning) (b : BraceRecord) (n : Force) : Type 0 where

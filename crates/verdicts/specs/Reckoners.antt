@@ -2,20 +2,20 @@
 --
 --     Strengths                 a positive strength for each kind
 --     tension z                 the axial force z is a pull; no force counts as one
---     kinds_in_use b n          the kinds in use, in the order of their numbers
+--     InUse b n k               the kind k is in use: an axial one of the force's sign with a share above 0, or a moment's
 --     axial_resistance b n f    (fy T²/100) / sine times the strengths of the classes, averaged by their shares; in newtons
 --     moment_resistance b s     (fy T²/100) / sine times d times the strength s; in newton-millimetres
 --     ratio b n p f             the part p of the force over what resists it
 --     utilisation b n f         the axial ratio, the square of the in-plane one and the out-of-plane one, added up
 --
 -- Assumes nothing.
-use Rattle.std.specs.Prelude.{◌≡◌, ℕ, ◌+◌, ◌*◌, ◌<◌, Bool, true, false, cond, ◌⊎◌, List, [], ◌∷◌, ℤ, pos, negsuc, nat_lt, unsigned_abs}
+use Rattle.std.specs.Prelude.{◌≡◌, ℕ, ◌+◌, ◌*◌, ◌<◌, Bool, true, false, ◌⊎◌, ℤ, pos, negsuc, unsigned_abs}
 use Rattle.std.proofs.Common.{mul-pos, eq-zero-or-pos, arith, inl, inr, lit<}
 use Rattle.powers.specs.Fractions.{Fraction, Positive, den_positive, num_positive, positive_of, number, quotient, ◌+ᶠ◌, ◌*ᶠ◌, ◌÷◌, ◌*⁺◌, ◌÷⁺◌}
+use Rattle.editions.specs.Meanings.{millionths}
 use Rattle.records.specs.declared.kind.Kind.{Kind}
 use Rattle.records.specs.declared.kind.Kind.TheVariants.{KAxial, YTension, YCompression, XTension, XCompression, InPlane, OutOfPlane}
 use Rattle.records.specs.declared.record.BraceRecord.{BraceRecord}
-use Rattle.editions.specs.Meanings.{millionths}
 use Rattle.verdicts.specs.declared.force.Force.{Force}
 use Rattle.verdicts.specs.declared.verdict.Part.{Part}
 use Rattle.verdicts.specs.declared.verdict.Part.TheVariants.{AxialForce, InPlaneMoment, OutOfPlaneMoment}
@@ -46,16 +46,15 @@ abbrev pub kind_of_x : Bool → Kind
 kind_of_x true = XTension
 kind_of_x false = XCompression
 
-abbrev pub with_share : ℕ → Kind → List Kind → List Kind
-with_share share k ks = cond (nat_lt 0 share) (k ∷ ks) ks
-
--- The axial kinds of the force's sign with a share above 0, and both moment kinds.
-abbrev pub kinds_in_use : BraceRecord → Force → List Kind
-kinds_in_use b n =
-    with_share b.shares.k KAxial
-    (with_share b.shares.y (kind_of_y (tension n.n))
-    (with_share b.shares.x (kind_of_x (tension n.n))
-    (InPlane ∷ OutOfPlane ∷ [])))
+-- The kinds in use: the axial ones of the force's sign with a share above 0, and both moment kinds.
+abbrev pub InUse : BraceRecord → Force → Kind → Type 0
+InUse b n KAxial = 0 < b.shares.k
+InUse b n YTension = (tension n.n ≡ true) × (0 < b.shares.y)
+InUse b n YCompression = (tension n.n ≡ false) × (0 < b.shares.y)
+InUse b n XTension = (tension n.n ≡ true) × (0 < b.shares.x)
+InUse b n XCompression = (tension n.n ≡ false) × (0 < b.shares.x)
+InUse b n InPlane = Unit {0}
+InUse b n OutOfPlane = Unit {0}
 
 -- fy T² / 100, in newtons, with T in tenths of a millimetre
 abbrev pub wall_force : BraceRecord → Positive

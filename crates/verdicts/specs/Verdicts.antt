@@ -8,9 +8,9 @@
 --     Checked m b n a        the answer a is such a verdict, or the first kind in use for which the chord is spent
 --
 -- Assumes nothing.
-use Rattle.std.specs.Prelude.{◌≡◌, ◌+◌, ◌*◌, ◌<◌, ◌≤◌, Some, None, Ok, Err, Result}
-use Rattle.records.specs.declared.record.BraceRecord.{BraceRecord}
+use Rattle.std.specs.Prelude.{◌+◌, ◌*◌, ◌<◌, ◌≤◌, Ok, Err, Result}
 use Rattle.editions.specs.Meanings.{Meaning, Usable}
+use Rattle.records.specs.declared.record.BraceRecord.{BraceRecord}
 use Rattle.verdicts.specs.declared.force.Force.{Force}
 use Rattle.verdicts.specs.declared.verdict.Part.{Part}
 use Rattle.verdicts.specs.declared.verdict.Part.TheVariants.{AxialForce, InPlaneMoment, OutOfPlaneMoment}
@@ -19,7 +19,7 @@ use Rattle.verdicts.specs.declared.verdict.Spent.{Spent}
 use Rattle.verdicts.specs.declared.verdict.Verdict.{Verdict}
 use Rattle.verdicts.specs.declared.verdict.Verdict.TheVariants.{Pass, Fail, Near, Far}
 use Rattle.verdicts.specs.Reckoners.{ratio}
-use Rattle.verdicts.specs.Bindings.{Between, Binds, first_spent, Reckoners}
+use Rattle.verdicts.specs.Bindings.{Between, Binds, FirstSpent, NoneSpent, Reckoners}
 
 pub record RatioEnds (m : Meaning) (b : BraceRecord) (n : Force) (p : Part) (e : Ends) : Type 0 where
   pub between : Between m b n (ratio b n p) e.low e.high
@@ -46,12 +46,12 @@ pub record Worked (m : Meaning) (b : BraceRecord) (n : Force) (v : Verdict) : Ty
   pub tens : Tens axial inner outer v
 
 pub record Answered (m : Meaning) (b : BraceRecord) (n : Force) (v : Verdict) : Type 0 where
-  pub unspent : first_spent m b n ≡ None
+  pub unspent : NoneSpent m b n
   pub reckoners : Usable m → Reckoners m b n
   pub worked : Usable m → Worked m b n v
   pub binds : Usable m → Binds m b n v
 
 -- What a check answers.
 abbrev pub Checked : Meaning → BraceRecord → Force → Result Verdict Spent → Type 0
-Checked m b n (Err s) = first_spent m b n ≡ Some s.kind
+Checked m b n (Err s) = FirstSpent m b n s.kind
 Checked m b n (Ok v) = Answered m b n v

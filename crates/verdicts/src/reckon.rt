@@ -1,7 +1,7 @@
 // Works out the verdict.
-ghost use Rattle.std.specs.Prelude.{◌≡◌, ℕ, ◌+◌, ◌*◌, ◌/◌, ◌<◌, ◌≤◌, true, Some, MatchResult};
+ghost use Rattle.std.specs.Prelude.{◌≡◌, ℕ, ◌+◌, ◌*◌, ◌/◌, ◌<◌, ◌≤◌, true, MatchResult};
 ghost use Rattle.verdicts.specs.Reckoners.{tension, kind_of_y, kind_of_x};
-ghost use Rattle.verdicts.specs.Bindings.{first_spent};
+ghost use Rattle.verdicts.specs.Bindings.{FirstSpent};
 ghost use Rattle.verdicts.specs.Verdicts.{Checked};
 ghost use Rattle.verdicts.specs.Steps.{Follows, Sound, Knows, Knowing, Encloses, based};
 
@@ -38,7 +38,7 @@ fn known<E: Edition>(
     kind: Kind,
     share: u64,
 ) -> Result<Known, Spent>
-    ensures { MatchResult result (λ e. Knows (meaning edition.now) brace.now force.now kind share e) (λ s. (s.kind ≡ kind) × (0 < share) × ((meaning edition.now).spent brace.now force.now.ratios kind ≡ true)) }
+    ensures { MatchResult result (λ e. Knows (E.meaning edition.now) brace.now force.now kind share e) (λ s. (s.kind ≡ kind) × (0 < share) × ((E.meaning edition.now).spent brace.now force.now.ratios kind ≡ true)) }
 {
     if share == 0 {
         return Ok(trusted(0, 0));
@@ -78,7 +78,7 @@ fn x_kind(force: &Force) -> Kind
 
 // The strengths in use, or the first kind for which the chord is spent.
 fn consult<E: Edition>(edition: &E, brace: &BraceRecord, force: &Force) -> Result<Consulted, Spent>
-    ensures { MatchResult result (λ c. Knowing (meaning edition.now) brace.now force.now c) (λ s. first_spent (meaning edition.now) brace.now force.now ≡ Some s.kind) }
+    ensures { MatchResult result (λ c. Knowing (E.meaning edition.now) brace.now force.now c) (λ s. FirstSpent (E.meaning edition.now) brace.now force.now s.kind) }
 {
     let k = known(edition, brace, force, Kind::KAxial, brace.shares.k)?;
     let y = known(edition, brace, force, y_kind(force), brace.shares.y)?;
@@ -178,7 +178,7 @@ pub fn verdict<E: Edition>(
     brace: &BraceRecord,
     force: &Force,
 ) -> Result<Verdict, Spent>
-    ensures { Checked (meaning edition.now) brace.now force.now result }
+    ensures { Checked (E.meaning edition.now) brace.now force.now result }
 {
     let c = consult(edition, brace, force)?;
     let axial = ratio(force.n.unsigned_abs(), brace, axial_resistance(brace, &c));

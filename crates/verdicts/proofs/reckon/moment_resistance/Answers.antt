@@ -9,16 +9,10 @@ invariant_of-result c =
     let wide : 40 ≤ b.brace = omega arith in
     let slim : b.brace ≤ 4000 = omega arith in
     let least = mul-le-mul (mul-le-mul c.base.ensures.least wide) s.firm in
-    let most = mul-le-mul (mul-le-mul c.base.ensures.most slim) s.top in (
-      omega (arith, least),
-      (
-        mul-le-mul_left (c.base.result * b.brace) s.ordered,
-        (
-          omega (arith, most),
-          (
-            scaled_near (c.base.result * b.brace) _ _ s.near,
-            tt,
-          ),
-        ),
-      ),
-    )
+    let most = mul-le-mul (mul-le-mul c.base.ensures.most slim) s.top in
+    record {
+      firm = omega (arith, least);
+      ordered = mul-le-mul_left (c.base.result * b.brace) s.ordered;
+      top = omega (arith, most);
+      near = scaled_near (c.base.result * b.brace) _ _ s.near;
+    }

@@ -25,13 +25,11 @@ overflow_cast-result-2 c =
 pub invariant_of-result : goal.invariant_of-result
 invariant_of-result c =
     let load = c.args.load * c.args.brace.now.sine * 100000000000 in
-    let r = c.args.by in (
-      quotient_order load r.low r.high (omega arith) r.ordered,
-      (
-        quotient_near load r.low r.high (omega arith) r.ordered r.near,
-        tt,
-      ),
-    )
+    let r = c.args.by in
+    record {
+      ordered = quotient_order load r.low r.high (omega arith) r.ordered;
+      near = quotient_near load r.low r.high (omega arith) r.ordered r.near;
+    }
 
 pub returns : goal.returns
 returns c =

@@ -20,7 +20,7 @@ invariant_of-ratios c =
     let p : SFits w64 c.args.f.p = search rules in
     let i : SFits w64 c.args.f.mi = search rules in
     let o : SFits w64 c.args.f.mo = search rules in
-    (simp to_z-of_z (sized c.args.f.p h.0 h.1, sized c.args.f.mi h.2.0 h.2.1, sized c.args.f.mo h.2.2.0 h.2.2.1), tt)
+    record { within = simp to_z-of_z (sized c.args.f.p h.0 h.1, sized c.args.f.mi h.2.0 h.2.1, sized c.args.f.mo h.2.2.0 h.2.2.1) }
 
 pub invariant_of-result : goal.invariant_of-result
 invariant_of-result c =
@@ -28,4 +28,8 @@ invariant_of-result c =
     let n : SFits w64 c.args.f.n = search rules in
     let y : SFits w64 c.args.f.my = search rules in
     let z : SFits w64 c.args.f.mz = search rules in
-    simp to_z-of_z (forced c.args.f.n h.0 h.1, (forced c.args.f.my h.2.0 h.2.1, (forced c.args.f.mz h.2.2.0 h.2.2.1, tt)))
+    record {
+      axially = simp to_z-of_z (forced c.args.f.n h.0 h.1);
+      inplane = simp to_z-of_z (forced c.args.f.my h.2.0 h.2.1);
+      outplane = simp to_z-of_z (forced c.args.f.mz h.2.2.0 h.2.2.1);
+    }
