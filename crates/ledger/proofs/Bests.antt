@@ -5,14 +5,13 @@ use Rattle.std.specs.List.{AllByRecursion as All}
 use Rattle.std.proofs.lemmas.List.{append_assoc, append-nil}
 use Rattle.std.proofs.ByRecursion.{All-push, All-append, All-weaker}
 use Rattle.std.proofs.lemmas.Bool.{cond-true, cond-false, cond_both, ltb-true, ltb-false, lt-ltb}
-use Rattle.verdicts.specs.Bindings.{find}
 use Rattle.verdicts.specs.declared.verdict.Verdict.{Verdict}
 use Rattle.ledger.specs.declared.entries.Brace.{Brace}
 use Rattle.ledger.specs.declared.entries.Worst.{Worst}
 use Rattle.ledger.specs.declared.refusal.Refusal.{Refusal}
 use Rattle.ledger.specs.declared.refusal.Refusal.TheVariants.{Unchecked}
-use Rattle.ledger.specs.Worsts.{reach, beyond, over, Under, NotOver, NotChecked, Highest, is_checked, Names, with_verdict, with_brace}
-use Rattle.ledger.specs.Ledger.{Ledger}
+use Rattle.ledger.specs.Worsts.{reach, beyond, over, Under, NotOver, NotChecked, Highest, Worst_of, is_checked, Names, with_verdict, with_brace}
+use Rattle.ledger.specs.Ledger.{find, Ledger}
 
 no_way : {A : Type 0} → false ≡ true → A
 no_way e = let z : ◌≡◌ {A = ℕ} 0 1 = cc in absurd (omega arith)
@@ -86,6 +85,10 @@ all_steps bs (b ∷ rest) a s =
 best_of_fold : (bs : List Brace) → BestOf bs (fold with_brace None bs)
 best_of_fold bs = all_steps [] bs None tt
 
+pub answers : (bs : List Brace) (a : Option Worst) (r : Result Worst Refusal) → a ≡ fold with_brace None bs → r ≡ ok_or a Unchecked → Worst_of bs r
+answers bs None r e h = subst (Worst_of bs) (sym h) (refl, subst (BestOf bs) (sym e) (best_of_fold bs))
+answers bs (Some w) r e h = subst (Worst_of bs) (sym h) (subst (BestOf bs) (sym e) (best_of_fold bs))
+
 none_checked : (bs : List Brace) → All NotChecked bs → is_some (find is_checked bs) ≡ false
 none_checked [] a = refl
 none_checked (b ∷ bs) a = ap is_some (cond-false (is_checked b) (Some b) (find is_checked bs) (ap is_some a.0)) ∙ none_checked bs a.1
@@ -98,8 +101,8 @@ one_checked (x ∷ front) b back v e =
 highest_checked : (bs : List Brace) (w : Worst) → Highest bs w → is_some (find is_checked bs) ≡ true
 highest_checked bs w s = subst (λ t. is_some (find is_checked t) ≡ true) (sym s.split) (one_checked s.before s.here s.behind w.verdict s.stands)
 
-pub answers : (l : Ledger) (a : Option Worst) (r : Result Worst Refusal) → a ≡ fold with_brace None l.braces → r ≡ ok_or a Unchecked → Names l r
-answers l None r e h = subst (Names l) (sym h) (cond-false _ _ _ (none_checked l.braces (subst (BestOf l.braces) (sym e) (best_of_fold l.braces))), refl)
-answers l (Some w) r e h =
+pub names : (l : Ledger) (a : Option Worst) (r : Result Worst Refusal) → a ≡ fold with_brace None l.braces → r ≡ ok_or a Unchecked → Names l r
+names l None r e h = subst (Names l) (sym h) (cond-false _ _ _ (none_checked l.braces (subst (BestOf l.braces) (sym e) (best_of_fold l.braces))), refl)
+names l (Some w) r e h =
     let s : Highest l.braces w = subst (BestOf l.braces) (sym e) (best_of_fold l.braces) in
     subst (Names l) (sym h) (cond-true _ _ _ (highest_checked l.braces w s), s)

@@ -1,12 +1,10 @@
 -- Laws of the ledger's definitions, for the crates above.
-use Rattle.std.proofs.Common.{◌≡◌, ℕ, Bool, true, false, cond, List, [], ◌∷◌, ℤ, pos, is_some, Some, None, Ok, Err, Option, Result, sym, refl, ap, ◌∙◌, arith}
+use Rattle.std.proofs.Common.{◌≡◌, ℕ, Bool, true, false, cond, List, [], ◌∷◌, ℤ, pos, is_some, Some, None, Ok, Err, Option, sym, refl, ap, ◌∙◌, arith}
 use Rattle.std.specs.Option.{ok_or}
 use Rattle.std.specs.List.{AllByRecursion as All}
-use Rattle.std.proofs.lemmas.Bool.{cond_both}
-use Rattle.verdicts.specs.Bindings.{find}
 use Rattle.ledger.specs.declared.entries.Brace.{Brace}
 use Rattle.ledger.specs.Causes.{Cause, because}
-use Rattle.ledger.specs.Ledger.{Ledger, amend, number_of, is_joint, is_brace, standing, standing_at}
+use Rattle.ledger.specs.Ledger.{find, Ledger, amend, number_of, is_joint, is_brace, standing, standing_at}
 
 of_ok : {X : Type 0} (o : Option X) (c : Cause) (x : X) → ok_or o c ≡ Ok x → o ≡ Some x
 of_ok None c x e = let z : ◌≡◌ {A = ℕ} 0 1 = cc in absurd (omega arith)

@@ -1,8 +1,8 @@
+use Rattle.ledger.specs.Ledger.{find}
 -- Searches from the front.
 use Rattle.std.proofs.Common.{◌≡◌, ℕ, suc, ◌+◌, ◌<◌, ◌≤◌, Bool, true, false, cond, List, [], ◌∷◌, length, get_or, drop, is_some, Some, None, Option, sym, refl, ap, ◌∙◌, subst, inl, inr, arith}
 use Rattle.std.proofs.lemmas.List.{at_drop_more, at_drop_all}
 use Rattle.std.proofs.lemmas.Bool.{cond-true, cond-false, cases_Bool}
-use Rattle.verdicts.specs.Bindings.{find}
 use Rattle.ledger.specs.Places.{Found}
 
 -- The place, counted from k, of the first that passes.

@@ -8,16 +8,15 @@ use Rattle.records.specs.declared.limits.BraceFigures.{BraceFigures}
 use Rattle.records.specs.declared.record.Chord.{Chord}
 use Rattle.ledger.specs.declared.refusal.Refusal.{Refusal}
 use Rattle.verdicts.specs.declared.force.Force.{Force}
-use Rattle.verdicts.specs.Bindings.{find}
 use Rattle.verdicts.specs.Forces.{force_limits}
 use Rattle.verdicts.specs.declared.forces.ForceFigures.{ForceFigures}
 use Rattle.ledger.specs.declared.entries.Brace.{Brace}
 use Rattle.ledger.specs.Causes.{Cause, because, cause}
 use Rattle.ledger.specs.Places.{Found, At}
-use Rattle.ledger.specs.Ledger.{Ledger, Does, is_joint, is_brace, at_joint, number_of, figure_cause, misfit_cause, first_cause, enter_at, enter_cause, brace_cause, add_at, add_cause, standing, standing_at, Amended, load_at, load_cause, force_cause, note_at, note_cause}
+use Rattle.ledger.specs.Ledger.{find, Ledger, Does, is_joint, is_brace, at_joint, number_of, figure_cause, misfit_cause, first_cause, enter_at, enter_cause, brace_cause, add_at, add_cause, standing, standing_at, Amended, load_at, load_cause, force_cause, note_at, note_cause}
 
 -- A refusal that came through a question mark.
-pub passed : {T : Type 0} (why : Option Cause) (then : T → Type 0) (l : Ledger) (e : Refusal) (r : Result T Refusal) → IsErrAnd r (λ x. x ≡ e) → why ≡ Some (cause e) → Does why then l l r
+pub passed : {T : Type 0} (why : Option Cause) (then : Type 0) (l : Ledger) (e : Refusal) (r : Result T Refusal) → IsErrAnd r (λ x. x ≡ e) → why ≡ Some (cause e) → Does why then l l r
 passed why then l e (Ok x) h w = absurd h
 passed why then l e (Err x) h w = (w ∙ ap (λ z. Some (cause z)) (sym h), refl)
 

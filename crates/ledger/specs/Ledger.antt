@@ -3,12 +3,13 @@
 --     Ledger                joints in order of entering, braces in order of adding
 --     holding t             what the tables t hold
 --     number_of z           z as a joint's or a brace's number, if it is from 1 to 999
+--     find p xs             the first of xs that passes p
 --     amend p f xs          the first that passes is changed by f
 --     without p xs          the first that passes is taken out
 --     is_joint, is_brace    the joint with this number, the brace with this number at this joint
 --     first_cause ts x      the cause of the first test of ts that holds; else x
---     Does why then l m r   r is what a call answers: a refusal by the cause why, which leaves the ledger as it was, or, with no cause, what
---                           then asks of the answer
+--     Does why then l m r   r is what a call answers: a refusal by the cause why, which leaves the ledger as it was, or, with no cause, then
+--     DoesWith why then l m r    the same, where what then stands is said of the answer
 --     enter_cause, add_cause, load_cause, note_cause, withdraw_cause    why a call is refused, if it is
 --     Entered, Added, Loaded, Noted, Withdrawn                          what stands after a call that is not
 --     Enters, Adds, Loads, Notes, Withdraws                             both: what the call answers, and what then stands
@@ -26,7 +27,6 @@ use Rattle.records.specs.declared.limits.ChordFigures.{ChordFigures}
 use Rattle.records.specs.declared.limits.BraceFigures.{BraceFigures}
 use Rattle.records.specs.declared.record.Chord.{Chord}
 use Rattle.records.specs.declared.record.BraceRecord.{BraceRecord}
-use Rattle.verdicts.specs.Bindings.{find}
 use Rattle.verdicts.specs.Forces.{force_limits, IsForce}
 use Rattle.verdicts.specs.declared.force.Force.{Force}
 use Rattle.verdicts.specs.declared.forces.ForceFigures.{ForceFigures}
@@ -34,11 +34,9 @@ use Rattle.verdicts.specs.declared.verdict.Verdict.{Verdict}
 use Rattle.ledger.specs.declared.entries.Joint.{Joint}
 use Rattle.ledger.specs.declared.entries.Brace.{Brace}
 use Rattle.ledger.specs.declared.refusal.Refusal.{Refusal}
-use Rattle.ledger.specs.declared.refusal.Place.TheVariants as place
-use Rattle.ledger.specs.declared.refusal.Room.TheVariants as room
-use Rattle.ledger.specs.declared.refusal.Refusal.TheVariants.{NumberOutside, NumberInUse, Unknown, Full, Outside, NoBrace, NotLoaded}
+use Rattle.ledger.specs.declared.refusal.Refusal.TheVariants.{Outside, NoBrace}
 use Rattle.ledger.specs.declared.tables.Tables.{Tables}
-use Rattle.ledger.specs.Causes.{Cause, cause}
+use Rattle.ledger.specs.Causes.{Cause, because, cause}
 
 pub record Ledger : Type 0 where
   pub joints : List Joint
@@ -51,6 +49,10 @@ abbrev pub holding : Tables → Ledger
 holding t = record { joints = vec_items t.joints; braces = vec_items t.braces }
 
 -- ---- lists
+abbrev pub find : {X : Type 0} → (X → Bool) → List X → Option X
+find p [] = None
+find p (x ∷ xs) = cond (p x) (Some x) (find p xs)
+
 abbrev pub amend : {X : Type 0} → (X → Bool) → (X → X) → List X → List X
 amend p f [] = []
 amend p f (x ∷ xs) = cond (p x) (f x ∷ xs) (x ∷ amend p f xs)
@@ -89,17 +91,21 @@ misfit_cause None = None
 misfit_cause (Some m) = Some (cause (NoBrace m))
 
 -- ---- answers
-abbrev pub Does : {T : Type 0} → Option Cause → (T → Type 0) → Ledger → Ledger → Result T Refusal → Type 0
-Does why then l m (Ok x) = (why ≡ None) × then x
+abbrev pub Does : {T : Type 0} → Option Cause → Type 0 → Ledger → Ledger → Result T Refusal → Type 0
+Does why then l m (Ok x) = (why ≡ None) × then
 Does why then l m (Err e) = (why ≡ Some (cause e)) × (m ≡ l)
+
+abbrev pub DoesWith : {T : Type 0} → Option Cause → (T → Type 0) → Ledger → Ledger → Result T Refusal → Type 0
+DoesWith why then l m (Ok x) = (why ≡ None) × then x
+DoesWith why then l m (Err e) = (why ≡ Some (cause e)) × (m ≡ l)
 
 -- ---- enter
 abbrev pub enter_at : Option ℕ → ChordFigures → Ledger → Option Cause
-enter_at None f l = Some (cause (NumberOutside place.Joint))
+enter_at None f l = Some (because 3 (pos 2))
 enter_at (Some n) f l =
     first_cause (
-    (is_some (find (is_joint n) l.joints), cause (NumberInUse place.Joint)) ∷
-    (nat_le 16 (length l.joints), cause (Full room.Joints)) ∷ [])
+    (is_some (find (is_joint n) l.joints), because 4 (pos 2)) ∷
+    (nat_le 16 (length l.joints), because 6 (pos 16)) ∷ [])
     (figure_cause (first_figure_outside (chord_limits f)))
 
 abbrev pub enter_cause : ℤ → ChordFigures → Ledger → Option Cause
@@ -115,7 +121,7 @@ pub record Entered (j : ℤ) (f : ChordFigures) (l m : Ledger) : Type 0 where
   pub braces : m.braces ≡ l.braces
 
 abbrev pub Enters : ℤ → ChordFigures → Ledger → Ledger → Result (Unit {0}) Refusal → Type 0
-Enters j f l m r = Does (enter_cause j f l) (λ _. Entered j f l m) l m r
+Enters j f l m r = Does (enter_cause j f l) (Entered j f l m) l m r
 
 -- ---- add
 abbrev pub brace_cause : Option Joint → BraceFigures → Option Cause
@@ -123,14 +129,14 @@ brace_cause None f = None
 brace_cause (Some j) f = misfit_cause (brace_fault j.chord f)
 
 abbrev pub add_at : Option ℕ → Option ℕ → BraceFigures → Ledger → Option Cause
-add_at None m f l = Some (cause (NumberOutside place.Joint))
-add_at (Some n) None f l = Some (cause (NumberOutside place.Brace))
+add_at None m f l = Some (because 3 (pos 2))
+add_at (Some n) None f l = Some (because 3 (pos 3))
 add_at (Some n) (Some m) f l =
     first_cause (
-    (is_some (find (is_brace n m) l.braces), cause (NumberInUse place.Brace)) ∷
-    (not (is_some (find (is_joint n) l.joints)), cause (Unknown place.Joint)) ∷
-    (nat_le 96 (length l.braces), cause (Full room.Braces)) ∷
-    (nat_le 8 (count_by (at_joint n) l.braces), cause (Full room.BracesAtJoint)) ∷ [])
+    (is_some (find (is_brace n m) l.braces), because 4 (pos 3)) ∷
+    (not (is_some (find (is_joint n) l.joints)), because 5 (pos 2)) ∷
+    (nat_le 96 (length l.braces), because 6 (pos 96)) ∷
+    (nat_le 8 (count_by (at_joint n) l.braces), because 6 (pos 8)) ∷ [])
     (brace_cause (find (is_joint n) l.joints) f)
 
 abbrev pub add_cause : ℤ → ℤ → BraceFigures → Ledger → Option Cause
@@ -150,14 +156,14 @@ pub record Added (j b : ℤ) (f : BraceFigures) (l m : Ledger) : Type 0 where
   pub braces : m.braces ≡ l.braces ++ (record { joint = joint; number = number; figures = figures; force = None; check = None }) ∷ []
 
 abbrev pub Adds : ℤ → ℤ → BraceFigures → Ledger → Ledger → Result (Unit {0}) Refusal → Type 0
-Adds j b f l m r = Does (add_cause j b f l) (λ _. Added j b f l m) l m r
+Adds j b f l m r = Does (add_cause j b f l) (Added j b f l m) l m r
 
 -- ---- a brace that a call speaks of
 abbrev pub standing_at : Option ℕ → Option ℕ → Ledger → Result Brace Cause
-standing_at None m l = Err (cause (NumberOutside place.Joint))
-standing_at (Some n) None l = Err (cause (NumberOutside place.Brace))
+standing_at None m l = Err (because 3 (pos 2))
+standing_at (Some n) None l = Err (because 3 (pos 3))
 standing_at (Some n) (Some m) l =
-    cond (is_some (find (is_joint n) l.joints)) (ok_or (find (is_brace n m) l.braces) (cause (Unknown place.Brace))) (Err (cause (Unknown place.Joint)))
+    cond (is_some (find (is_joint n) l.joints)) (ok_or (find (is_brace n m) l.braces) (because 5 (pos 3))) (Err (because 5 (pos 2)))
 
 unfoldable pub standing : ℤ → ℤ → Ledger → Result Brace Cause
 standing j b l = standing_at (number_of j) (number_of b) l
@@ -189,11 +195,11 @@ pub record Loaded (j b : ℤ) (f : ForceFigures) (l m : Ledger) : Type 0 where
   pub amended : Amended j b (brace_with_force force) l m
 
 abbrev pub Loads : ℤ → ℤ → ForceFigures → Ledger → Ledger → Result (Unit {0}) Refusal → Type 0
-Loads j b f l m r = Does (load_cause j b f l) (λ _. Loaded j b f l m) l m r
+Loads j b f l m r = Does (load_cause j b f l) (Loaded j b f l m) l m r
 
 -- ---- a check and its answer
 abbrev pub force_cause : Option Force → Option Cause
-force_cause None = Some (cause NotLoaded)
+force_cause None = Some (because 11 (pos 0))
 force_cause (Some n) = None
 
 abbrev pub note_at : Result Brace Cause → Option Cause
@@ -215,12 +221,12 @@ abbrev pub Noted : ℤ → ℤ → Verdict → Ledger → Ledger → Type 0
 Noted j b v l m = Amended j b (brace_with_check v) l m
 
 abbrev pub Notes : ℤ → ℤ → Verdict → Ledger → Ledger → Result (Unit {0}) Refusal → Type 0
-Notes j b v l m r = Does (note_cause j b l) (λ _. Noted j b v l m) l m r
+Notes j b v l m r = Does (note_cause j b l) (Noted j b v l m) l m r
 
 -- ---- withdraw
 abbrev pub withdraw_at : Option ℕ → Ledger → Option Cause
-withdraw_at None l = Some (cause (NumberOutside place.Joint))
-withdraw_at (Some n) l = cond (is_some (find (is_joint n) l.joints)) None (Some (cause (Unknown place.Joint)))
+withdraw_at None l = Some (because 3 (pos 2))
+withdraw_at (Some n) l = cond (is_some (find (is_joint n) l.joints)) None (Some (because 5 (pos 2)))
 
 abbrev pub withdraw_cause : ℤ → Ledger → Option Cause
 withdraw_cause j l = withdraw_at (number_of j) l
@@ -233,4 +239,4 @@ pub record Withdrawn (j : ℤ) (l m : Ledger) : Type 0 where
   pub braces : m.braces ≡ filter (elsewhere number) l.braces
 
 abbrev pub Withdraws : ℤ → Ledger → Ledger → Result (Unit {0}) Refusal → Type 0
-Withdraws j l m r = Does (withdraw_cause j l) (λ _. Withdrawn j l m) l m r
+Withdraws j l m r = Does (withdraw_cause j l) (Withdrawn j l m) l m r

@@ -8,8 +8,7 @@ use Rattle.std.specs.Prelude.{◌≡◌, ℕ, ◌<◌, Bool, List, length, ℤ, 
 use Rattle.std.specs.List.{remove}
 use Rattle.ledger.specs.declared.refusal.Refusal.{Refusal}
 use Rattle.ledger.specs.Causes.{cause}
-use Rattle.verdicts.specs.Bindings.{find}
-use Rattle.ledger.specs.Ledger.{Ledger, amend, without, number_of, is_brace, standing}
+use Rattle.ledger.specs.Ledger.{Ledger, find, amend, without, number_of, is_brace, standing}
 
 pub record Found {X : Type 0} (p : X → Bool) (xs : List X) (i : ℕ) : Type 0 where
   pub within : i < length xs

@@ -5,13 +5,13 @@
 --     Under, NotOver   a check that stands at a brace is under a verdict, or not over it
 --     Highest bs w     w names the first brace of those whose checks reach highest
 --     with_brace w b   the worst so far, w, with one more brace
+--     Worst_of bs r    r is such a brace, or the refusal that no check stands
 --     worst_cause l    why there is none to name: no check stands
 --     Names l r        r is the worst brace of the ledger l, or that refusal
 --
 -- Assumes nothing.
-use Rattle.std.specs.Prelude.{◌≡◌, ℕ, Bool, true, false, cond, List, ◌∷◌, ◌++◌, is_some, Some, None, Option, Result, nat_lt}
+use Rattle.std.specs.Prelude.{◌≡◌, ℕ, Bool, true, false, cond, List, ◌∷◌, ◌++◌, is_some, Some, None, Ok, Err, Option, Result, nat_lt}
 use Rattle.std.specs.List.{AllByRecursion as All}
-use Rattle.verdicts.specs.Bindings.{find}
 use Rattle.verdicts.specs.declared.verdict.Verdict.{Verdict}
 use Rattle.verdicts.specs.declared.verdict.Verdict.TheVariants.{Pass, Fail, Near, Far}
 use Rattle.ledger.specs.declared.entries.Brace.{Brace}
@@ -19,7 +19,7 @@ use Rattle.ledger.specs.declared.entries.Worst.{Worst}
 use Rattle.ledger.specs.Causes.{Cause, cause}
 use Rattle.ledger.specs.declared.refusal.Refusal.{Refusal}
 use Rattle.ledger.specs.declared.refusal.Refusal.TheVariants.{Unchecked}
-use Rattle.ledger.specs.Ledger.{Ledger, Does}
+use Rattle.ledger.specs.Ledger.{Ledger, find, DoesWith}
 
 abbrev pub reach : Verdict → Option ℕ
 reach (Pass e) = Some e.high
@@ -65,6 +65,10 @@ with_verdict (Some w) b (Some v) = cond (over v w.verdict) (Some (record { joint
 abbrev pub with_brace : Option Worst → Brace → Option Worst
 with_brace w b = with_verdict w b b.check
 
+abbrev pub Worst_of : List Brace → Result Worst Refusal → Type 0
+Worst_of bs (Ok w) = Highest bs w
+Worst_of bs (Err e) = (e ≡ Unchecked) × All NotChecked bs
+
 abbrev pub is_checked : Brace → Bool
 is_checked b = is_some b.check
 
@@ -72,4 +76,4 @@ abbrev pub worst_cause : Ledger → Option Cause
 worst_cause l = cond (is_some (find is_checked l.braces)) None (Some (cause Unchecked))
 
 abbrev pub Names : Ledger → Result Worst Refusal → Type 0
-Names l r = Does (worst_cause l) (Highest l.braces) l l r
+Names l r = DoesWith (worst_cause l) (Highest l.braces) l l r

@@ -1,9 +1,8 @@
 // The calls on the tables, each as the ledger has it.
 ghost use Rattle.std.specs.Prelude.{◌≡◌, ◌≤◌, is_some, IfOk, None, vec_len, vec_capacity, count_by, filter, MatchOption};
-ghost use Rattle.verdicts.specs.Bindings.{find};
-ghost use Rattle.ledger.specs.Ledger.{empty, holding, number_of, is_joint, is_brace, at_joint, elsewhere, Enters, Adds, Loads, Told, Notes, Withdraws};
+ghost use Rattle.ledger.specs.Ledger.{empty, holding, find, number_of, is_joint, is_brace, at_joint, elsewhere, Does, enter_cause, Entered, add_cause, Added, load_cause, Loaded, Told, note_cause, Noted, withdraw_cause, Withdrawn};
 ghost use Rattle.ledger.specs.Places.{Found, Stood};
-ghost use Rattle.ledger.specs.Worsts.{reach, over, with_brace, Names};
+ghost use Rattle.ledger.specs.Worsts.{reach, over, with_brace, Worst_of, Names};
 
 use crate::entries::{Brace, Joint, Worst};
 use crate::refusal::{Place, Refusal, Room};
@@ -118,7 +117,7 @@ impl Tables {
     }
 
     pub fn enter(&mut self, joint: i64, figures: ChordFigures) -> Result<(), Refusal>
-        ensures { Enters joint figures (holding self.old) (holding self.new) result }
+        ensures { Does (enter_cause joint figures (holding self.old)) (Entered joint figures (holding self.old) (holding self.new)) (holding self.old) (holding self.new) result }
     {
         let Some(number) = number_of(joint) else {
             return Err(Refusal::NumberOutside(Place::Joint));
@@ -148,7 +147,7 @@ impl Tables {
     }
 
     pub fn add(&mut self, joint: i64, brace: i64, figures: BraceFigures) -> Result<(), Refusal>
-        ensures { Adds joint brace figures (holding self.old) (holding self.new) result }
+        ensures { Does (add_cause joint brace figures (holding self.old)) (Added joint brace figures (holding self.old) (holding self.new)) (holding self.old) (holding self.new) result }
     {
         let Some(n) = number_of(joint) else {
             return Err(Refusal::NumberOutside(Place::Joint));
@@ -199,7 +198,7 @@ impl Tables {
     }
 
     pub fn load(&mut self, joint: i64, brace: i64, figures: ForceFigures) -> Result<(), Refusal>
-        ensures { Loads joint brace figures (holding self.old) (holding self.new) result }
+        ensures { Does (load_cause joint brace figures (holding self.old)) (Loaded joint brace figures (holding self.old) (holding self.new)) (holding self.old) (holding self.new) result }
     {
         let i = self.standing(joint, brace)?;
         let force = Force::new(figures)?;
@@ -222,7 +221,7 @@ impl Tables {
 
     // Writes down the answer of a check.
     pub fn note(&mut self, joint: i64, brace: i64, verdict: Verdict) -> Result<(), Refusal>
-        ensures { Notes joint brace verdict (holding self.old) (holding self.new) result }
+        ensures { Does (note_cause joint brace (holding self.old)) (Noted joint brace verdict (holding self.old) (holding self.new)) (holding self.old) (holding self.new) result }
     {
         let i = self.standing(joint, brace)?;
         let held = self.braces[i];
@@ -234,7 +233,7 @@ impl Tables {
     }
 
     pub fn withdraw(&mut self, joint: i64) -> Result<(), Refusal>
-        ensures { Withdraws joint (holding self.old) (holding self.new) result }
+        ensures { Does (withdraw_cause joint (holding self.old)) (Withdrawn joint (holding self.old) (holding self.new)) (holding self.old) (holding self.new) result }
     {
         let Some(n) = number_of(joint) else {
             return Err(Refusal::NumberOutside(Place::Joint));
@@ -249,7 +248,8 @@ impl Tables {
 
     // An indexed walk in order of adding, keeping the first that reaches highest.
     pub fn worst(&self) -> Result<Worst, Refusal>
-        ensures { Names (holding self.now) result }
+        ensures worst { Worst_of (holding self.now).braces result }
+        ensures names { Names (holding self.now) result }
     {
         let mut best = None;
         for i in 0..self.braces.len() {

@@ -1,8 +1,7 @@
 use Rattle.std.proofs.Common.{◌≡◌, true, false, leb, length, is_some, Some, vec_items, count_by, refl, ap, ◌∙◌, subst, arith, rules}
 use Rattle.std.proofs.lemmas.Bool.{lt-leb}
 use Rattle.records.specs.Limits.{IsBrace}
-use Rattle.verdicts.specs.Bindings.{find}
-use Rattle.ledger.specs.Ledger.{holding, number_of, is_brace, at_joint, misfit_cause, Added}
+use Rattle.ledger.specs.Ledger.{find, holding, number_of, is_brace, at_joint, misfit_cause, Added}
 use Rattle.ledger.proofs.Steps.{passed, add_full, add_crowded, add_limits}
 use Rattle.ledger.proofs.tables.Tables.add.Goals as goal
 
@@ -32,7 +31,7 @@ returns-in_err-figures c =
     let place : leb 8 (count_by (at_joint c.in-Some.n) (vec_items c.args.self.now.braces)) ≡ false = search rules in
     let same = ap (λ x. x.chord) (c.index.ensures ∙ c.in-Some-joint_at.ensures.found.here _) in
     let why = add_limits c.args.joint c.args.brace c.args.figures (holding c.args.self.now) c.in-Some.n c.in-Some-number_of.number c.in-Some-joint_at.i joint brace free c.in-Some-joint_at.ensures.found room place c.index.result.now.chord same in
-    passed _ (λ _. Added c.args.joint c.args.brace c.args.figures (holding c.args.self.now) (holding c.args.self.now)) (holding c.args.self.now) _ _ c.from_residual.ensures.1
+    passed _ (Added c.args.joint c.args.brace c.args.figures (holding c.args.self.now) (holding c.args.self.now)) (holding c.args.self.now) _ _ c.from_residual.ensures.1
     (why ∙ ap misfit_cause c.in_err-figures.ensures.fault)
 
 pub returns : goal.returns

@@ -11,7 +11,7 @@ returns-in_err-force c =
     let b : SFits w64 c.args.brace = search rules in
     let at : At c.args.joint c.args.brace (holding c.args.self.now) c.in_ok-i.i = simp to_z-of_z at c.in_ok-i.ensures in
     let why = load_limits c.args.joint c.args.brace c.args.figures (holding c.args.self.now) c.in_ok-i.i at in
-    passed _ (λ _. Loaded c.args.joint c.args.brace c.args.figures (holding c.args.self.now) (holding c.args.self.now)) (holding c.args.self.now) _ _ c.from_residual-in_err-force.ensures.1
+    passed _ (Loaded c.args.joint c.args.brace c.args.figures (holding c.args.self.now) (holding c.args.self.now)) (holding c.args.self.now) _ _ c.from_residual-in_err-force.ensures.1
     (why ∙ ap figure_cause c.in_err-force.ensures.fault)
 
 pub returns : goal.returns

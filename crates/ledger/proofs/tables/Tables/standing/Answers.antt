@@ -1,6 +1,5 @@
 use Rattle.std.proofs.Common.{◌≡◌, true, is_some, Some, vec_items, rules}
-use Rattle.verdicts.specs.Bindings.{find}
-use Rattle.ledger.specs.Ledger.{holding, number_of, is_joint, standing}
+use Rattle.ledger.specs.Ledger.{find, holding, number_of, is_joint, standing}
 use Rattle.ledger.proofs.Steps.{stood}
 use Rattle.ledger.proofs.tables.Tables.standing.Goals as goal
 

@@ -3,7 +3,7 @@ use Rattle.std.proofs.lemmas.List.Sums.{fold_more}
 use Rattle.std.proofs.lemmas.List.{take_all}
 use Rattle.ledger.specs.Ledger.{holding}
 use Rattle.ledger.specs.Worsts.{with_brace}
-use Rattle.ledger.proofs.Bests.{answers}
+use Rattle.ledger.proofs.Bests.{answers, names}
 use Rattle.ledger.proofs.tables.Tables.worst.Goals as goal
 
 pub loop-i-preserved : goal.loop-i-preserved
@@ -12,4 +12,4 @@ loop-i-preserved c = search (rules, fold_more)
 pub returns : goal.returns
 returns c =
     let all : c.loop-i.best ≡ fold with_brace None (vec_items c.args.self.now.braces) = c.loop-i.invariant ∙ ap (fold with_brace None) (take_all c.loop-i.i (vec_items c.args.self.now.braces) (omega arith)) in
-    answers (holding c.args.self.now) _ _ all c.ok_or.ensures.value
+    record { worst = answers _ _ _ all c.ok_or.ensures.value; names = names (holding c.args.self.now) _ _ all c.ok_or.ensures.value }
