@@ -1,3 +1,4 @@
+mod Uses
 mod Making
 mod Stays
 mod Performing

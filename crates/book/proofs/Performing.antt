@@ -1,6 +1,6 @@
 -- A run, call by call.
-use Rattle.std.proofs.Common.{◌≡◌, List, [], ◌∷◌, ◌++◌, sym, refl, ◌∙◌, subst}
-use Rattle.editions.specs.Meanings.{Meaning, Usable}
+use Rattle.std.proofs.Common.{◌≡◌, List, [], ◌∷◌, ◌++◌, refl, ◌∙◌, subst}
+use Rattle.editions.specs.Meanings.{Meaning}
 use Rattle.ledger.specs.Ledger.{Ledger, empty}
 use Rattle.book.specs.declared.book.Book.{Book}
 use Rattle.book.specs.declared.calls.Call.{Call}

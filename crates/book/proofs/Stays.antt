@@ -1,5 +1,5 @@
 -- Every step leaves every standing check binding.
-use Rattle.std.proofs.Common.{◌≡◌, ℕ, List, [], ◌∷◌, Some, None, Ok, Err, Option, Result, sym, refl, ◌∙◌, subst, arith}
+use Rattle.std.proofs.Common.{◌≡◌, ℕ, List, Some, None, Ok, Err, Option, Result, sym, refl, subst, arith}
 use Rattle.std.proofs.ByRecursion.{All-push, all_kept_by}
 use Rattle.std.specs.List.{AllByRecursion as All}
 use Rattle.editions.specs.Meanings.{Meaning, Usable}
@@ -9,14 +9,14 @@ use Rattle.verdicts.specs.declared.force.Force.{Force}
 use Rattle.verdicts.specs.declared.verdict.Verdict.{Verdict}
 use Rattle.ledger.proofs.Laws.{standing_found, all_amend}
 use Rattle.ledger.specs.Causes.{Cause}
-use Rattle.ledger.specs.Ledger.{Ledger, Does, elsewhere, is_brace, brace_with_force, brace_with_check, Entered, Added, Loaded, Withdrawn, Enters, Adds, Loads, Withdraws}
+use Rattle.ledger.specs.Ledger.{Ledger, Does, DoesWith, elsewhere, is_brace, brace_with_force, brace_with_check, Entered, Added, Loaded, Withdrawn}
 use Rattle.ledger.specs.declared.entries.Brace.{Brace}
 use Rattle.ledger.specs.declared.refusal.Refusal.{Refusal}
 use Rattle.book.specs.declared.calls.Call.{Call}
 use Rattle.book.specs.declared.calls.Call.TheVariants.{Enter, Add, Load, Withdraw, Check, FindWorst}
 use Rattle.book.specs.declared.calls.Answer.{Answer}
 use Rattle.book.specs.Checks.{CheckMade}
-use Rattle.book.specs.Standing.{Bound, Stands, Standing}
+use Rattle.book.specs.Standing.{Stands, Standing}
 use Rattle.book.specs.Steps.{Step}
 use Rattle.book.specs.Runs.{Runs, end, next}
 
@@ -42,9 +42,13 @@ same_brace a b o p q = cc
 
 module _ (m : Meaning) (u : Usable m) (l k : Ledger) (s : Standing m l) where
   -- A refusal leaves what stands.
-  does_stay : {T : Type 0} (why : Option Cause) (then : T → Type 0) → ((x : T) → then x → Standing m k) → (r : Result T Refusal) → Does why then l k r → Standing m k
-  does_stay why then f (Ok x) d = f x d.1
+  does_stay : {T : Type 0} (why : Option Cause) (then : Type 0) → (then → Standing m k) → (r : Result T Refusal) → Does why then l k r → Standing m k
+  does_stay why then f (Ok x) d = f d.1
   does_stay why then f (Err e) d = subst (Standing m) (sym d.1) s
+
+  does_stay_with : {T : Type 0} (why : Option Cause) (then : T → Type 0) → ((x : T) → then x → Standing m k) → (r : Result T Refusal) → DoesWith why then l k r → Standing m k
+  does_stay_with why then f (Ok x) d = f x d.1
+  does_stay_with why then f (Err e) d = subst (Standing m) (sym d.1) s
 
   enters : {j : _} {f : _} → Entered j f l k → Standing m k
   enters t = subst (All (Stands m)) (sym t.braces) s
@@ -69,11 +73,11 @@ module _ (m : Meaning) (u : Usable m) (l k : Ledger) (s : Standing m l) where
       (λ x e. subst (λ y. Stands m (brace_with_check v y)) (same_brace f.held x _ here e) (checked_stands m u f.held f.force v f.loaded answered)) s)
 
   pub stays : (c : Call) (a : Answer) → Step m l c a k → Standing m k
-  stays (Enter j f) a (r, _, d) = does_stay _ _ (λ _ t. enters t) r d
-  stays (Add j b f) a (r, _, d) = does_stay _ _ (λ _ t. adds t) r d
-  stays (Load j b f) a (r, _, d) = does_stay _ _ (λ _ t. loads t) r d
-  stays (Withdraw j) a (r, _, d) = does_stay _ _ (λ _ t. withdraws t) r d
-  stays (Check j b) a (r, _, d) = does_stay _ _ (λ v t. checks v t) r d
+  stays (Enter j f) a (r, _, d) = does_stay _ _ (λ t. enters t) r d
+  stays (Add j b f) a (r, _, d) = does_stay _ _ (λ t. adds t) r d
+  stays (Load j b f) a (r, _, d) = does_stay _ _ (λ t. loads t) r d
+  stays (Withdraw j) a (r, _, d) = does_stay _ _ (λ t. withdraws t) r d
+  stays (Check j b) a (r, _, d) = does_stay_with _ _ (λ v t. checks v t) r d
   stays FindWorst a (_, e) = subst (Standing m) (sym e) s
 
 pub runs_stay : {m : Meaning} {l k : Ledger} {cs : List Call} {xs : List Answer} → Usable m → Runs m l cs xs k → Standing m l → Standing m k

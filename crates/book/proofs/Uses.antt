@@ -1,33 +1,42 @@
--- The kinds in use, one by one.
-use Rattle.std.proofs.Common.{◌≡◌, ℕ, ◌<◌, Bool, true, false, cond, ltb, List, [], ◌∷◌, None, refl, ◌∙◌}
-use Rattle.std.specs.List.{AllByRecursion as All}
-use Rattle.std.proofs.lemmas.Bool.{cond-false, cond_both, ltb-true, lt-ltb}
+-- The list of the kinds in use finds what their definition one by one says.
+use Rattle.std.proofs.Common.{◌≡◌, ℕ, ◌<◌, Bool, true, false, ltb, List, [], ◌∷◌, Some, None, sym, refl, ◌∙◌, subst, arith, lit<}
+use Rattle.std.proofs.lemmas.Bool.{cond-true, cond-false, cond_both, ltb-true, lt-ltb}
+use Rattle.records.specs.Kinds.{number}
 use Rattle.records.specs.declared.kind.Kind.{Kind}
-use Rattle.records.specs.declared.kind.Kind.TheVariants.{KAxial, InPlane, OutOfPlane}
+use Rattle.records.specs.declared.kind.Kind.TheVariants.{KAxial, YTension, YCompression, XTension, XCompression, InPlane, OutOfPlane}
 use Rattle.records.specs.declared.record.BraceRecord.{BraceRecord}
+use Rattle.editions.specs.Meanings.{Meaning}
 use Rattle.verdicts.specs.declared.force.Force.{Force}
-use Rattle.verdicts.specs.Reckoners.{tension, kind_of_y, kind_of_x, with_share, kinds_in_use}
-use Rattle.verdicts.specs.Bindings.{find}
+use Rattle.verdicts.specs.Reckoners.{tension, kind_of_y, kind_of_x, InUse}
+use Rattle.verdicts.specs.Bindings.{FirstSpent, NoneSpent}
+use Rattle.verdicts.proofs.Bounds.{y_in_use, x_in_use}
+use Rattle.ledger.specs.Ledger.{find}
+use Rattle.book.specs.Uses.{with_share, kinds_in_use, first_spent}
 
 -- One kind with its share, before others.
-module _ (share : ℕ) (k : Kind) (ks : List Kind) where
-  past : (p : Kind → Bool) → (0 < share → p k ≡ false) → find p (with_share share k ks) ≡ find p ks
-  past p f = cond_both (ltb 0 share) (k ∷ ks) ks (λ xs. find p xs ≡ find p ks) (λ e. cond-false _ _ _ (f (ltb-true _ _ e))) (λ _. refl)
+module _ (share : ℕ) (k : Kind) (ks : List Kind) (p : Kind → Bool) where
+  past : (0 < share → p k ≡ false) → find p (with_share share k ks) ≡ find p ks
+  past f = cond_both (ltb 0 share) (k ∷ ks) ks (λ xs. find p xs ≡ find p ks) (λ e. cond-false _ _ _ (f (ltb-true _ _ e))) (λ _. refl)
 
-  all_more : (P : Kind → Type 0) → (0 < share → P k) → All P ks → All P (with_share share k ks)
-  all_more P f rest = cond_both (ltb 0 share) (k ∷ ks) ks (All P) (λ e. (f (ltb-true _ _ e), rest)) (λ _. rest)
+  here : 0 < share → p k ≡ true → find p (with_share share k ks) ≡ Some k
+  here h e = let at : find p (k ∷ ks) ≡ Some k = cond-true _ _ _ e in rw (lt-ltb 0 share h) at
 
-  here : (P : Kind → Type 0) → All P (with_share share k ks) → 0 < share → P k
-  here P all h = let at : All P (k ∷ ks) = rw (lt-ltb 0 share h) at all in at.0
+-- The numbers of the axial kinds are below those of the moments.
+y_below : (t : Bool) → number (kind_of_y t) < 6
+y_below true = lit< tt
+y_below false = lit< tt
 
-  rest : (P : Kind → Type 0) → All P (with_share share k ks) → All P ks
-  rest P = go (ltb 0 share)
-    where
-      go : (t : Bool) → All P (cond t (k ∷ ks) ks) → All P ks
-      go true x = x.1
-      go false x = x
+x_below : (t : Bool) → number (kind_of_x t) < 6
+x_below true = lit< tt
+x_below false = lit< tt
 
-module _ (b : BraceRecord) (n : Force) where
+lt_next : {n : ℕ} → n < 6 → n < 7
+lt_next h = omega arith
+
+module _ (m : Meaning) (b : BraceRecord) (n : Force) where
+  abbrev spent : Kind → Bool
+  spent k = m.spent b n.ratios k
+
   abbrev of_moments : List Kind
   of_moments = InPlane ∷ OutOfPlane ∷ []
 
@@ -37,43 +46,52 @@ module _ (b : BraceRecord) (n : Force) where
   abbrev from_y : List Kind
   from_y = with_share b.shares.y (kind_of_y (tension n.n)) from_x
 
-  pub none_found : (p : Kind → Bool) → (0 < b.shares.k → p KAxial ≡ false) → (0 < b.shares.y → p (kind_of_y (tension n.n)) ≡ false)
-      → (0 < b.shares.x → p (kind_of_x (tension n.n)) ≡ false) → p InPlane ≡ false → p OutOfPlane ≡ false → find p (kinds_in_use b n) ≡ None
-  none_found p k y x i o =
-      past b.shares.k KAxial from_y p k
-      ∙ past b.shares.y (kind_of_y (tension n.n)) from_x p y
-      ∙ past b.shares.x (kind_of_x (tension n.n)) of_moments p x
-      ∙ cond-false _ _ _ i
-      ∙ cond-false _ _ _ o
+  past_k : (0 < b.shares.k → spent KAxial ≡ false) → find spent (kinds_in_use b n) ≡ find spent from_y
+  past_k f = past b.shares.k KAxial from_y spent f
 
-  module _ (P : Kind → Type 0) where
-    pub all_used : (0 < b.shares.k → P KAxial) → (0 < b.shares.y → P (kind_of_y (tension n.n))) → (0 < b.shares.x → P (kind_of_x (tension n.n))) → P InPlane → P OutOfPlane → All P (kinds_in_use b n)
-    all_used k y x i o =
-        all_more b.shares.k KAxial from_y P k
-        (all_more b.shares.y (kind_of_y (tension n.n)) from_x P y
-        (all_more b.shares.x (kind_of_x (tension n.n)) of_moments P x (i, (o, tt))))
+  past_y : (0 < b.shares.y → spent (kind_of_y (tension n.n)) ≡ false) → find spent from_y ≡ find spent from_x
+  past_y f = past b.shares.y (kind_of_y (tension n.n)) from_x spent f
 
-    module _ (all : All P (kinds_in_use b n)) where
-      after_k : All P from_y
-      after_k = rest b.shares.k KAxial from_y P all
+  past_x : (0 < b.shares.x → spent (kind_of_x (tension n.n)) ≡ false) → find spent from_x ≡ find spent of_moments
+  past_x f = past b.shares.x (kind_of_x (tension n.n)) of_moments spent f
 
-      after_y : All P from_x
-      after_y = rest b.shares.y (kind_of_y (tension n.n)) from_x P after_k
+  pub none_found : NoneSpent m b n → first_spent m b n ≡ None
+  none_found f =
+      past_k (f KAxial)
+      ∙ past_y (λ h. f _ (y_in_use b n h))
+      ∙ past_x (λ h. f _ (x_in_use b n h))
+      ∙ cond-false _ _ _ (f InPlane tt)
+      ∙ cond-false _ _ _ (f OutOfPlane tt)
 
-      after_x : All P of_moments
-      after_x = rest b.shares.x (kind_of_x (tension n.n)) of_moments P after_y
+  -- Where the force is a pull or a push, the kind of a class is known.
+  y_here : (t : Bool) → tension n.n ≡ t → 0 < b.shares.y → spent (kind_of_y t) ≡ true → find spent from_y ≡ Some (kind_of_y t)
+  y_here t e h s = subst (λ (x : Bool). find spent (with_share b.shares.y (kind_of_y x) from_x) ≡ Some (kind_of_y t)) (sym e) (here b.shares.y (kind_of_y t) from_x spent h s)
 
-      pub used_k : 0 < b.shares.k → P KAxial
-      used_k = here b.shares.k KAxial from_y P all
+  x_here : (t : Bool) → tension n.n ≡ t → 0 < b.shares.x → spent (kind_of_x t) ≡ true → find spent from_x ≡ Some (kind_of_x t)
+  x_here t e h s = subst (λ (x : Bool). find spent (with_share b.shares.x (kind_of_x x) of_moments) ≡ Some (kind_of_x t)) (sym e) (here b.shares.x (kind_of_x t) of_moments spent h s)
 
-      pub used_y : 0 < b.shares.y → P (kind_of_y (tension n.n))
-      used_y = here b.shares.y (kind_of_y (tension n.n)) from_x P after_k
+  y_unspent : (t : Bool) → tension n.n ≡ t → (InUse b n (kind_of_y t) → spent (kind_of_y t) ≡ false) → 0 < b.shares.y → spent (kind_of_y (tension n.n)) ≡ false
+  y_unspent t e f h = subst (λ (x : Bool). spent (kind_of_y x) ≡ false) (sym e) (f (subst (λ (x : Bool). InUse b n (kind_of_y x)) e (y_in_use b n h)))
 
-      pub used_x : 0 < b.shares.x → P (kind_of_x (tension n.n))
-      used_x = here b.shares.x (kind_of_x (tension n.n)) of_moments P after_y
+  x_unspent : (t : Bool) → tension n.n ≡ t → (InUse b n (kind_of_x t) → spent (kind_of_x t) ≡ false) → 0 < b.shares.x → spent (kind_of_x (tension n.n)) ≡ false
+  x_unspent t e f h = subst (λ (x : Bool). spent (kind_of_x x) ≡ false) (sym e) (f (subst (λ (x : Bool). InUse b n (kind_of_x x)) e (x_in_use b n h)))
 
-      pub used_inner : P InPlane
-      used_inner = after_x.0
-
-      pub used_outer : P OutOfPlane
-      used_outer = after_x.1.0
+  pub first_found : (k : Kind) → FirstSpent m b n k → first_spent m b n ≡ Some k
+  first_found KAxial s = here b.shares.k KAxial from_y spent s.used s.spent
+  first_found YTension s = past_k (s.first KAxial (lit< tt)) ∙ y_here true s.used.0 s.used.1 s.spent
+  first_found YCompression s = past_k (s.first KAxial (lit< tt)) ∙ y_here false s.used.0 s.used.1 s.spent
+  first_found XTension s =
+      past_k (s.first KAxial (lit< tt)) ∙ past_y (y_unspent true s.used.0 (s.first YTension (lit< tt))) ∙ x_here true s.used.0 s.used.1 s.spent
+  first_found XCompression s =
+      past_k (s.first KAxial (lit< tt)) ∙ past_y (y_unspent false s.used.0 (s.first YCompression (lit< tt))) ∙ x_here false s.used.0 s.used.1 s.spent
+  first_found InPlane s =
+      past_k (s.first KAxial (lit< tt))
+      ∙ past_y (λ h. s.first _ (y_below (tension n.n)) (y_in_use b n h))
+      ∙ past_x (λ h. s.first _ (x_below (tension n.n)) (x_in_use b n h))
+      ∙ cond-true _ _ _ s.spent
+  first_found OutOfPlane s =
+      past_k (s.first KAxial (lit< tt))
+      ∙ past_y (λ h. s.first _ (lt_next (y_below (tension n.n))) (y_in_use b n h))
+      ∙ past_x (λ h. s.first _ (lt_next (x_below (tension n.n))) (x_in_use b n h))
+      ∙ cond-false _ _ _ (s.first InPlane (lit< tt) tt)
+      ∙ cond-true _ _ _ s.spent

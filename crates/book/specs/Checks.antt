@@ -13,15 +13,15 @@ use Rattle.std.specs.Prelude.{◌≡◌, ℤ, Some, None, Ok, Err, Option, Resul
 use Rattle.records.specs.declared.kind.Kind.{Kind}
 use Rattle.records.specs.declared.record.BraceRecord.{BraceRecord}
 use Rattle.editions.specs.Meanings.{Meaning}
-use Rattle.verdicts.specs.Bindings.{first_spent}
 use Rattle.verdicts.specs.Verdicts.{Answered}
 use Rattle.verdicts.specs.declared.force.Force.{Force}
 use Rattle.verdicts.specs.declared.verdict.Verdict.{Verdict}
 use Rattle.ledger.specs.Causes.{Cause, cause}
-use Rattle.ledger.specs.Ledger.{Ledger, Does, standing, note_cause, Noted}
+use Rattle.ledger.specs.Ledger.{Ledger, DoesWith, standing, note_cause, Noted}
 use Rattle.ledger.specs.declared.entries.Brace.{Brace}
 use Rattle.ledger.specs.declared.refusal.Refusal.{Refusal}
 use Rattle.ledger.specs.declared.refusal.Refusal.TheVariants.{Spent}
+use Rattle.book.specs.Uses.{first_spent}
 
 abbrev pub or_else : Option Cause → Option Cause → Option Cause
 or_else (Some c) d = Some c
@@ -61,4 +61,4 @@ pub record CheckMade (m : Meaning) (j b : ℤ) (v : Verdict) (l k : Ledger) : Ty
   pub noted : Noted j b v l k
 
 abbrev pub Checks : Meaning → ℤ → ℤ → Ledger → Ledger → Result Verdict Refusal → Type 0
-Checks m j b l k r = Does (check_cause m j b l) (λ v. CheckMade m j b v l k) l k r
+Checks m j b l k r = DoesWith (check_cause m j b l) (λ v. CheckMade m j b v l k) l k r

@@ -1,4 +1,5 @@
 pub mod Openings
+pub mod Uses
 pub mod Checks
 pub mod Steps
 pub mod Standing

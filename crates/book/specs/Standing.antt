@@ -5,10 +5,10 @@
 --     Standing m l     every check that stands in the ledger l does
 --
 -- Assumes nothing.
-use Rattle.std.specs.Prelude.{◌≡◌, Some, None}
+use Rattle.std.specs.Prelude.{◌≡◌, Some}
 use Rattle.std.specs.List.{AllByRecursion as All}
 use Rattle.editions.specs.Meanings.{Meaning}
-use Rattle.verdicts.specs.Bindings.{first_spent, Reckoners, Binds}
+use Rattle.verdicts.specs.Bindings.{NoneSpent, Reckoners, Binds}
 use Rattle.verdicts.specs.Verdicts.{Worked}
 use Rattle.verdicts.specs.declared.force.Force.{Force}
 use Rattle.verdicts.specs.declared.verdict.Verdict.{Verdict}
@@ -18,7 +18,7 @@ use Rattle.ledger.specs.declared.entries.Brace.{Brace}
 pub record Bound (m : Meaning) (b : Brace) (v : Verdict) : Type 0 where
   pub force : Force
   pub loaded : b.force ≡ Some force
-  pub unspent : first_spent m b.figures force ≡ None
+  pub unspent : NoneSpent m b.figures force
   pub reckoners : Reckoners m b.figures force
   pub worked : Worked m b.figures force v
   pub binds : Binds m b.figures force v
