@@ -1,5 +1,5 @@
 -- A line by its fields.
-use Rattle.std.proofs.Common.{◌≡◌, ℕ, ◌+◌, ◌<◌, ◌≤◌, Bool, List, [], ◌∷◌, length, take, ℤ, pos, IsErrAnd, Some, None, Ok, Err, Option, Result, sym, refl, ap, ◌∙◌, arith, get_or-take}
+use Rattle.std.proofs.Common.{◌≡◌, ℕ, ◌+◌, ◌<◌, ◌≤◌, Bool, List, [], ◌∷◌, length, take, ℤ, pos, IsErrAnd, Some, None, Ok, Err, Result, sym, ap, ◌∙◌, arith, get_or-take}
 use Rattle.std.proofs.lemmas.Bool.{cond-true, cond-false, lt-ltb, le-ltb, eq-eqb, ne_eqb}
 use Rattle.cards.specs.declared.word.Word.{Word}
 use Rattle.cards.specs.declared.word.Word.TheVariants as word

@@ -1,4 +1,4 @@
-use Rattle.std.proofs.Common.{◌≡◌, ◌+◌, ◌-◌, ◌*◌, ◌<◌, length, get_or, take, sym, refl, ap, ◌∙◌, subst, arith}
+use Rattle.std.proofs.Common.{◌≡◌, ◌-◌, get_or, take, ap, ◌∙◌, subst, arith}
 use Rattle.std.specs.Str.Parse.{digits_value, AllDigits}
 use Rattle.std.specs.Char.{digit_value as digitValue}
 use Rattle.std.proofs.lemmas.Int.Digits.{digits_value_more, digits_more}
@@ -15,8 +15,8 @@ overflow_add-n c = omega (arith, front_small c.args.field.now c.loop-b.b-index c
 pub returns-in_default : goal.returns-in_default
 returns-in_default c = λ d _. no_digit c.args.field.now c.loop-b.b-index c.loop-b-test.true (λ i. omega arith) d
 
-pub returns-in_default·2 : goal.returns-in_default·2
-returns-in_default·2 c = λ d _. no_digit c.args.field.now c.loop-b.b-index c.loop-b-test.true (λ i. omega arith) d
+pub returns-in_default-2 : goal.returns-in_default-2
+returns-in_default-2 c = λ d _. no_digit c.args.field.now c.loop-b.b-index c.loop-b-test.true (λ i. omega arith) d
 
 pub loop-b-preserved : goal.loop-b-preserved
 loop-b-preserved c =

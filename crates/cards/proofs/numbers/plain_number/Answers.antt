@@ -1,4 +1,4 @@
-use Rattle.std.proofs.Common.{◌≡◌, ◌<◌, length, get_or, arith, rules, ltb-false, ltb-true}
+use Rattle.std.proofs.Common.{arith, rules, ltb-false, ltb-true}
 use Rattle.cards.proofs.Signs.{reads, none_empty, none_zero, zero_text}
 use Rattle.cards.proofs.numbers.plain_number.Goals as goal
 

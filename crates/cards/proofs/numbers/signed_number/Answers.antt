@@ -1,4 +1,4 @@
-use Rattle.std.proofs.Common.{◌≡◌, get_or, arith, rules, ltb-false, ltb-true}
+use Rattle.std.proofs.Common.{arith, rules, ltb-false, ltb-true}
 use Rattle.std.proofs.lemmas.Int.{ints}
 use Rattle.cards.proofs.Signs.{neg_zero, neg_none, neg_some}
 use Rattle.cards.proofs.numbers.signed_number.Goals as goal

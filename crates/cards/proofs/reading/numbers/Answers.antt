@@ -1,4 +1,4 @@
-use Rattle.std.proofs.Common.{◌≡◌, ◌+◌, ◌<◌, length, set, ap, arith, length-set, w64, SFits, rules}
+use Rattle.std.proofs.Common.{◌+◌, ◌<◌, length, ap, arith, length-set, w64, SFits, rules}
 use Rattle.std.proofs.lemmas.Int.{to_z-of_z}
 use Rattle.cards.specs.Fields.{left}
 use Rattle.cards.proofs.Counting.{numbers_more, numbers_all}

@@ -1,7 +1,6 @@
-use Rattle.std.proofs.Common.{◌≡◌, ℕ, ◌+◌, ◌-◌, ◌<◌, ◌≤◌, List, length, take, drop, sym, refl, ap, ◌∙◌, subst, arith, length-drop}
+use Rattle.std.proofs.Common.{◌≡◌, ℕ, ◌+◌, ◌-◌, ◌<◌, ◌≤◌, List, length, take, drop, refl, ap, ◌∙◌, arith, length-drop}
 use native.Mathlib.Nat.{sub-zero}
 use Rattle.std.proofs.lemmas.List.{take_rest, drop_all}
-use Rattle.cards.specs.Pieces.{lines_of}
 use Rattle.cards.proofs.Cuts.{line_step, front_again}
 use Rattle.cards.proofs.lines.Lines.next_line.Goals as goal
 use Rattle.cards.proofs.lines.Lines.next_line.Goals.{then-n-rest, else-n-rest}
