@@ -17,7 +17,7 @@ use Rattle.cards.specs.Cards.{card_of}
 use Rattle.decks.specs.declared.fault.Fault.{Fault}
 use Rattle.decks.specs.declared.fault.Told.{Told}
 use Rattle.decks.specs.Desks.{Desk, closed, kept_by}
-use Rattle.decks.specs.Sessions.{is_open, Opens, OutOfPlace, Performs, on_card, Takes}
+use Rattle.decks.specs.Sessions.{is_open, Performs, on_card}
 use Rattle.decks.specs.Responses.{Reads, end, next, Binding}
 
 same : (d e : Desk) → e ≡ d → Binding d → Binding e

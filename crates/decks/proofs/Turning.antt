@@ -1,5 +1,5 @@
 -- What a call of the book comes to on a desk.
-use Rattle.std.proofs.Common.{◌≡◌, true, false, ℤ, is_some, IsErrAnd, Some, None, Ok, Err, Option, Result, sym, refl, ap, ◌∙◌, subst}
+use Rattle.std.proofs.Common.{◌≡◌, false, ℤ, is_some, IsErrAnd, Some, None, Ok, Err, Option, Result, sym, refl, ap, ◌∙◌, subst}
 use Rattle.std.proofs.lemmas.Bool.{both_ways}
 use Rattle.records.specs.declared.limits.BraceFigures.{BraceFigures}
 use Rattle.layers.specs.declared.pile.Pile.{Pile}

@@ -10,8 +10,7 @@
 --     Stopping r P     P holds of the answer r, unless memory was wanted
 --
 -- Assumes nothing.
-use Rattle.std.specs.Prelude.{◌≡◌, ℕ, Bool, true, false, List, ℤ, Some, None, Ok, Err, Option, Result}
-use Rattle.verdicts.specs.declared.verdict.Verdict.{Verdict}
+use Rattle.std.specs.Prelude.{◌≡◌, ℕ, Bool, true, false, List, Some, None, Ok, Err, Option, Result}
 use Rattle.layers.specs.declared.pile.Pile.{Pile}
 use Rattle.layers.specs.declared.pile_fault.PileFault.{PileFault}
 use Rattle.layers.specs.Piles.{fault_of_pile, PileNamed}

@@ -1,4 +1,4 @@
-use Rattle.std.proofs.Common.{◌≡◌, ◌++◌, string_bytes, sym, ap, ◌∙◌, subst, arith}
+use Rattle.std.proofs.Common.{◌++◌, string_bytes, sym, ap, ◌∙◌, subst, arith}
 use Rattle.layers.proofs.Laws.{pile_usable}
 use Rattle.cards.specs.Lines.{left, seen}
 use Rattle.decks.specs.Sessions.{desk_of}
@@ -10,8 +10,8 @@ returns-then-input-gt32768 c = too_much c.args.input.now _ c.if-input-gt32768.tr
 
 pub loop-line-init : goal.loop-line-init
 loop-line-init c =
-    let it = c.into-iter-line-iterator.result in
-    let is = c.into-iter-line-iterator.ensures.into-iter-gives in
+    let it = c.into_iter-line-iterator.result in
+    let is = c.into_iter-line-iterator.ensures.into_iter_gives in
     let input = c.args.input.now in
     let n = c.new-line-items.ensures in
     (tt, tt, subst (λ x. Sofar input x (string_bytes c.new-out.result) (seen it) (desk_of c.new-session.result)) (sym (ap left is ∙ n.1)) (sofar_none input _ _ _ c.new-out.ensures.bytes (ap seen is ∙ n.2) c.new-session.ensures))
