@@ -1,7 +1,7 @@
 -- Every step leaves every standing check binding.
 use Rattle.std.proofs.Common.{◌≡◌, ℕ, List, Some, None, Ok, Err, Option, Result, sym, refl, subst, arith}
 use Rattle.std.proofs.ByRecursion.{All-push, all_kept_by}
-use Rattle.std.specs.List.{AllByRecursion as All}
+use Rattle.std.specs.List.{AllByRecursion}
 use Rattle.editions.specs.Meanings.{Meaning, Usable}
 use Rattle.verdicts.specs.Verdicts.{Answered, Worked}
 use Rattle.verdicts.specs.Bindings.{Binds}
@@ -51,16 +51,16 @@ module _ (m : Meaning) (u : Usable m) (l k : Ledger) (s : Standing m l) where
   does_stay_with why then f (Err e) d = subst (Standing m) (sym d.1) s
 
   enters : {j : _} {f : _} → Entered j f l k → Standing m k
-  enters t = subst (All (Stands m)) (sym t.braces) s
+  enters t = subst (AllByRecursion (Stands m)) (sym t.braces) s
 
   adds : {j b : _} {f : _} → Added j b f l k → Standing m k
-  adds t = subst (All (Stands m)) (sym t.braces) (All-push (Stands m) l.braces _ s (bare_stands m _ refl))
+  adds t = subst (AllByRecursion (Stands m)) (sym t.braces) (All-push (Stands m) l.braces _ s (bare_stands m _ refl))
 
   loads : {j b : _} {f : _} → Loaded j b f l k → Standing m k
-  loads t = subst (All (Stands m)) (sym t.amended.braces) (all_amend (Stands m) (is_brace t.amended.joint t.amended.number) (brace_with_force t.force) l.braces (λ b _. bare_stands m (brace_with_force t.force b) refl) s)
+  loads t = subst (AllByRecursion (Stands m)) (sym t.amended.braces) (all_amend (Stands m) (is_brace t.amended.joint t.amended.number) (brace_with_force t.force) l.braces (λ b _. bare_stands m (brace_with_force t.force b) refl) s)
 
   withdraws : {j : _} → Withdrawn j l k → Standing m k
-  withdraws t = subst (All (Stands m)) (sym t.braces) (all_kept_by (elsewhere t.number) (Stands m) l.braces s)
+  withdraws t = subst (AllByRecursion (Stands m)) (sym t.braces) (all_kept_by (elsewhere t.number) (Stands m) l.braces s)
 
   checks : {j b : _} (v : Verdict) → CheckMade m j b v l k → Standing m k
   checks {j} {b} v t =
@@ -68,7 +68,7 @@ module _ (m : Meaning) (u : Usable m) (l k : Ledger) (s : Standing m l) where
       let f = t.found in
       let here = standing_found j b l n.joint n.number f.held n.joint_numbered n.numbered f.stands in
       let answered = subst (λ x. Answered m x f.force v) (sym f.carried) f.answered in
-      subst (All (Stands m)) (sym n.braces)
+      subst (AllByRecursion (Stands m)) (sym n.braces)
       (all_amend (Stands m) (is_brace n.joint n.number) (brace_with_check v) l.braces
       (λ x e. subst (λ y. Stands m (brace_with_check v y)) (same_brace f.held x _ here e) (checked_stands m u f.held f.force v f.loaded answered)) s)
 

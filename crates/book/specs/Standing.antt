@@ -6,7 +6,7 @@
 --
 -- Assumes nothing.
 use Rattle.std.specs.Prelude.{◌≡◌, Some}
-use Rattle.std.specs.List.{AllByRecursion as All}
+use Rattle.std.specs.List.{AllByRecursion}
 use Rattle.editions.specs.Meanings.{Meaning}
 use Rattle.verdicts.specs.Bindings.{NoneSpent, Reckoners, Binds}
 use Rattle.verdicts.specs.Verdicts.{Worked}
@@ -27,4 +27,4 @@ abbrev pub Stands : Meaning → Brace → Type 0
 Stands m b = (v : Verdict) → b.check ≡ Some v → Bound m b v
 
 abbrev pub Standing : Meaning → Ledger → Type 0
-Standing m l = All (Stands m) l.braces
+Standing m l = AllByRecursion (Stands m) l.braces

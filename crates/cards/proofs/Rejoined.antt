@@ -8,7 +8,7 @@ use Rattle.std.proofs.lemmas.Bool.Decides.{nat_tests}
 use Rattle.std.proofs.lemmas.Str.Parse.{digit_at}
 use Rattle.std.proofs.lemmas.Fmt.{digits_decimal}
 use Rattle.std.specs.Fmt.{signed_decimal}
-use Rattle.std.specs.List.{AllByRecursion as All}
+use Rattle.std.specs.List.{AllByRecursion}
 use Rattle.std.specs.Str.{bytes_eq}
 use Rattle.cards.specs.declared.word.Word.{Word}
 use Rattle.cards.specs.declared.word.Word.TheVariants as word
@@ -63,7 +63,7 @@ numbers_text k (t ∷ ts) zs e = go (number_in t) (numbers_in (k + 1) ts) (numbe
     go (Some z) (Err f) reads is rest p = let n : ◌≡◌ {A = ℕ} 0 1 = cc in absurd (omega arith)
     go (Some z) (Ok ys) reads is rest p = let all : zs ≡ z ∷ ys = cc in (λ i. reads.1 i ∷ rest ys is i) ∙ ap (map signed_decimal) (sym all)
 
-text_numbers : (k : ℕ) (zs : List ℤ) → All Short zs → numbers_in k (map signed_decimal zs) ≡ Ok zs
+text_numbers : (k : ℕ) (zs : List ℤ) → AllByRecursion Short zs → numbers_in k (map signed_decimal zs) ≡ Ok zs
 text_numbers k [] s = refl
 text_numbers k (z ∷ zs) s =
     ap (λ o. then o k (numbers_in (k + 1) (map signed_decimal zs))) (exact (signed_decimal z) (number_in (signed_decimal z)) z (number_reads (signed_decimal z)) (s.0, refl))
@@ -173,7 +173,7 @@ module _ (ready : Bool) (c : Card) where
 
 -- ---- the text of a card
 abbrev NoComma : List ℕ → Type 0
-NoComma t = All (λ b. b ≡ 44 → ⊥) t
+NoComma t = AllByRecursion (λ b. b ≡ 44 → ⊥) t
 
 parted_first : (t r : List ℕ) → NoComma t → fields_of (t ++ 44 ∷ r) ≡ t ∷ fields_of r
 parted_first [] r h = refl
@@ -183,7 +183,7 @@ parted_last : (t : List ℕ) → NoComma t → fields_of t ≡ t ∷ []
 parted_last [] h = refl
 parted_last (b ∷ t) h = cond-false _ _ _ (ne_eqb b 44 h.0) ∙ ap (onto b) (parted_last t h.1)
 
-parted_all : (t : List ℕ) (ts : List (List ℕ)) → NoComma t → All NoComma ts → fields_of (joined (t ∷ ts)) ≡ t ∷ ts
+parted_all : (t : List ℕ) (ts : List (List ℕ)) → NoComma t → AllByRecursion NoComma ts → fields_of (joined (t ∷ ts)) ≡ t ∷ ts
 parted_all t [] h hs = parted_last t h
 parted_all t (u ∷ us) h hs = parted_first t (joined (u ∷ us)) h ∙ ap (λ x. t ∷ x) (parted_all u us hs.0 hs.1)
 
@@ -195,7 +195,7 @@ signed_plain : (z : ℤ) → Short z → NoComma (signed_decimal z)
 signed_plain (pos n) h = decimal_plain n h
 signed_plain (negsuc n) h = ((λ e. omega arith), decimal_plain (suc n) (omega arith))
 
-numbers_plain : (zs : List ℤ) → All Short zs → All NoComma (map signed_decimal zs)
+numbers_plain : (zs : List ℤ) → AllByRecursion Short zs → AllByRecursion NoComma (map signed_decimal zs)
 numbers_plain [] h = tt
 numbers_plain (z ∷ zs) h = (signed_plain z h.0, numbers_plain zs h.1)
 

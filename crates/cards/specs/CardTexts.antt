@@ -10,7 +10,7 @@
 -- Assumes nothing.
 use Rattle.std.specs.Prelude.{◌≡◌, ℕ, ◌≤◌, Bool, true, List, [], ◌∷◌, ◌++◌, map, length, ℤ}
 use Rattle.std.specs.Fmt.{signed_decimal}
-use Rattle.std.specs.List.{AllByRecursion as All}
+use Rattle.std.specs.List.{AllByRecursion}
 use Rattle.cards.specs.declared.word.Word.{Word}
 use Rattle.cards.specs.declared.word.Word.TheVariants as word
 use Rattle.cards.specs.declared.card.Card.{Card}
@@ -41,6 +41,6 @@ abbrev pub card_text : Card → List ℕ
 card_text c = joined (word_text (card_word c) ∷ map signed_decimal (card_numbers c))
 
 pub record Readable (ready : Bool) (c : Card) : Type 0 where
-  pub short : All Short (card_numbers c)
+  pub short : AllByRecursion Short (card_numbers c)
   pub placed : in_place ready (card_word c) ≡ true
   pub fits : length (card_text c) ≤ 120

@@ -1,7 +1,7 @@
 -- The walk of `worst` keeps the first of the highest.
 use Rattle.std.proofs.Common.{◌≡◌, ℕ, true, false, List, [], ◌∷◌, ◌++◌, is_some, Some, None, fold, Option, Result, sym, refl, ap, ◌∙◌, subst, arith}
 use Rattle.std.specs.Option.{ok_or}
-use Rattle.std.specs.List.{AllByRecursion as All}
+use Rattle.std.specs.List.{AllByRecursion}
 use Rattle.std.proofs.lemmas.List.{append_assoc, append-nil}
 use Rattle.std.proofs.ByRecursion.{All-push, All-append, All-weaker}
 use Rattle.std.proofs.lemmas.Bool.{cond-true, cond-false, cond_both, ltb-true, ltb-false, lt-ltb}
@@ -33,7 +33,7 @@ beyond_not (Some a) (Some b) None h k = no_way (sym k)
 beyond_not (Some a) (Some b) (Some c) h k = let x = ltb-true _ _ h in let y = ltb-false _ _ k in lt-ltb _ _ (omega arith)
 
 abbrev BestOf : List Brace → Option Worst → Type 0
-BestOf bs None = All NotChecked bs
+BestOf bs None = AllByRecursion NotChecked bs
 BestOf bs (Some w) = Highest bs w
 
 -- with a brace at the end that is not over the best
@@ -51,7 +51,7 @@ stays bs b w s n = record {
 }
 
 -- with a brace at the end that is over the best
-passes : (bs : List Brace) (b : Brace) (v : Verdict) → b.check ≡ Some v → All (Under v) bs → Highest (bs ++ b ∷ []) (record { joint = b.joint; brace = b.number; verdict = v })
+passes : (bs : List Brace) (b : Brace) (v : Verdict) → b.check ≡ Some v → AllByRecursion (Under v) bs → Highest (bs ++ b ∷ []) (record { joint = b.joint; brace = b.number; verdict = v })
 passes bs b v e under = record { before = bs; here = b; behind = []; split = refl; stands = e; joint = refl; brace = refl; first = under; top = tt }
 
 none_some : (b : Brace) (v : Verdict) → b.check ≡ None → b.check ≡ Some v → ⊥
@@ -60,12 +60,12 @@ none_some b v n s = let z : ◌≡◌ {A = ℕ} 0 1 = cc in omega arith
 some_same : (b : Brace) (v w : Verdict) → b.check ≡ Some v → b.check ≡ Some w → w ≡ v
 some_same b v w p q = cc
 
-all_under : (bs : List Brace) (w : Worst) (v : Verdict) → Highest bs w → over v w.verdict ≡ true → All (Under v) bs
+all_under : (bs : List Brace) (w : Worst) (v : Verdict) → Highest bs w → over v w.verdict ≡ true → AllByRecursion (Under v) bs
 all_under bs w v s h =
     let front = All-weaker (Under w.verdict) (Under v) (λ b u x e. beyond_both (reach v) (reach w.verdict) (reach x) h (u x e)) s.before s.first in
     let here : Under v s.here = λ x e. subst (λ z. over v z ≡ true) (sym (some_same s.here w.verdict x s.stands e)) h in
     let back = All-weaker (NotOver w.verdict) (Under v) (λ b u x e. beyond_not (reach v) (reach w.verdict) (reach x) h (u x e)) s.behind s.top in
-    subst (All (Under v)) (sym s.split) (All-append (Under v) s.before (s.here ∷ s.behind) front (here, back))
+    subst (AllByRecursion (Under v)) (sym s.split) (All-append (Under v) s.before (s.here ∷ s.behind) front (here, back))
 
 step_at : (bs : List Brace) (b : Brace) (a : Option Worst) (o : Option Verdict) → b.check ≡ o → BestOf bs a → BestOf (bs ++ b ∷ []) (with_verdict a b o)
 step_at bs b None None e s = All-push NotChecked bs b s e
@@ -89,7 +89,7 @@ pub answers : (bs : List Brace) (a : Option Worst) (r : Result Worst Refusal) �
 answers bs None r e h = subst (Worst_of bs) (sym h) (refl, subst (BestOf bs) (sym e) (best_of_fold bs))
 answers bs (Some w) r e h = subst (Worst_of bs) (sym h) (subst (BestOf bs) (sym e) (best_of_fold bs))
 
-none_checked : (bs : List Brace) → All NotChecked bs → is_some (find is_checked bs) ≡ false
+none_checked : (bs : List Brace) → AllByRecursion NotChecked bs → is_some (find is_checked bs) ≡ false
 none_checked [] a = refl
 none_checked (b ∷ bs) a = ap is_some (cond-false (is_checked b) (Some b) (find is_checked bs) (ap is_some a.0)) ∙ none_checked bs a.1
 

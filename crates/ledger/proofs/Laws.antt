@@ -1,7 +1,7 @@
 -- Laws of the ledger's definitions, for the crates above.
 use Rattle.std.proofs.Common.{◌≡◌, ℕ, Bool, true, false, cond, List, [], ◌∷◌, ℤ, pos, is_some, Some, None, Ok, Err, Option, sym, refl, ap, ◌∙◌, arith}
 use Rattle.std.specs.Option.{ok_or}
-use Rattle.std.specs.List.{AllByRecursion as All}
+use Rattle.std.specs.List.{AllByRecursion}
 use Rattle.ledger.specs.declared.entries.Brace.{Brace}
 use Rattle.ledger.specs.Causes.{Cause, because}
 use Rattle.ledger.specs.Ledger.{find, Ledger, amend, number_of, is_joint, is_brace, standing, standing_at}
@@ -22,10 +22,10 @@ standing_found j b l n m held joint brace e =
     (sym (ap (λ o. standing_at o (number_of b) l) joint ∙ ap (λ o. standing_at (Some n) o l) brace) ∙ e)
 
 -- What holds of each, and of the one that is changed, holds of each after.
-pub all_amend : {X : Type 0} (P : X → Type 0) (p : X → Bool) (f : X → X) (xs : List X) → ((x : X) → find p xs ≡ Some x → P (f x)) → All P xs → All P (amend p f xs)
+pub all_amend : {X : Type 0} (P : X → Type 0) (p : X → Bool) (f : X → X) (xs : List X) → ((x : X) → find p xs ≡ Some x → P (f x)) → AllByRecursion P xs → AllByRecursion P (amend p f xs)
 all_amend P p f [] k a = tt
 all_amend P p f (x ∷ xs) k a = go (p x) k (λ h. all_amend P p f xs h a.1)
   where
-    go : (t : Bool) → ((y : _) → cond t (Some x) (find p xs) ≡ Some y → P (f y)) → (((y : _) → find p xs ≡ Some y → P (f y)) → All P (amend p f xs)) → All P (cond t (f x ∷ xs) (x ∷ amend p f xs))
+    go : (t : Bool) → ((y : _) → cond t (Some x) (find p xs) ≡ Some y → P (f y)) → (((y : _) → find p xs ≡ Some y → P (f y)) → AllByRecursion P (amend p f xs)) → AllByRecursion P (cond t (f x ∷ xs) (x ∷ amend p f xs))
     go true h rest = (h x refl, a.1)
     go false h rest = (a.0, rest h)

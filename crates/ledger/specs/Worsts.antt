@@ -11,7 +11,7 @@
 --
 -- Assumes nothing.
 use Rattle.std.specs.Prelude.{◌≡◌, ℕ, Bool, true, false, cond, List, ◌∷◌, ◌++◌, is_some, Some, None, Ok, Err, Option, Result, nat_lt}
-use Rattle.std.specs.List.{AllByRecursion as All}
+use Rattle.std.specs.List.{AllByRecursion}
 use Rattle.verdicts.specs.declared.verdict.Verdict.{Verdict}
 use Rattle.verdicts.specs.declared.verdict.Verdict.TheVariants.{Pass, Fail, Near, Far}
 use Rattle.ledger.specs.declared.entries.Brace.{Brace}
@@ -53,8 +53,8 @@ pub record Highest (bs : List Brace) (w : Worst) : Type 0 where
   pub stands : here.check ≡ Some w.verdict
   pub joint : w.joint ≡ here.joint
   pub brace : w.brace ≡ here.number
-  pub first : All (Under w.verdict) before
-  pub top : All (NotOver w.verdict) behind
+  pub first : AllByRecursion (Under w.verdict) before
+  pub top : AllByRecursion (NotOver w.verdict) behind
 
 -- The worst so far, with one more brace.
 abbrev pub with_verdict : Option Worst → Brace → Option Verdict → Option Worst
@@ -67,7 +67,7 @@ with_brace w b = with_verdict w b b.check
 
 abbrev pub Worst_of : List Brace → Result Worst Refusal → Type 0
 Worst_of bs (Ok w) = Highest bs w
-Worst_of bs (Err e) = (e ≡ Unchecked) × All NotChecked bs
+Worst_of bs (Err e) = (e ≡ Unchecked) × AllByRecursion NotChecked bs
 
 abbrev pub is_checked : Brace → Bool
 is_checked b = is_some b.check
