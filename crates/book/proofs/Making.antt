@@ -39,6 +39,6 @@ check_refused m j b l f n s (Err e) h t first =
     ∙ ap kind_cause (first_found m f n s.kind first)
     ∙ ap (λ x. Some (cause x)) (sym h)
 
-pub moved_as : {E : Type 0} (before after : Book E) (m : Meaning) (call as-named : Call) (a : Answer) → call ≡ as-named → after.edition ≡ before.edition
-    → Step m (ledger_of before) as-named a (ledger_of after) → Moves before after (λ l k. Step m l call a k)
-moved_as before after m call as-named a e same s = record { edition = same; step = subst (λ c. Step m (ledger_of before) c a (ledger_of after)) (sym e) s }
+pub moved_as : {E : Type 0} (before after : Book E) (m : Meaning) (call as_named : Call) (a : Answer) → call ≡ as_named → after.edition ≡ before.edition
+    → Step m (ledger_of before) as_named a (ledger_of after) → Moves before after (λ l k. Step m l call a k)
+moved_as before after m call as_named a e same s = record { edition = same; step = subst (λ c. Step m (ledger_of before) c a (ledger_of after)) (sym e) s }

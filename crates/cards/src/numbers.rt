@@ -4,11 +4,13 @@ ghost use Rattle.std.specs.Str.Parse.{digits_value, AllDigits};
 ghost use Rattle.cards.specs.Numbers.{IsText, number_in};
 ghost use Rattle.cards.specs.Texts.{ReadsPlain, ReadsSigned};
 
+const MOST_DIGITS: usize = 10;
+
 // The value of at most ten digits; None where a byte is no digit, or there are more than ten.
 fn digits(field: &[u8]) -> Option<u64>
     ensures { MatchOption result (AllDigits 10 field.now → length field.now ≤ 10 → ⊥) (λ v. (length field.now ≤ 10) × AllDigits 10 field.now × (v ≡ digits_value 10 field.now)) }
 {
-    if field.len() > 10 {
+    if field.len() > MOST_DIGITS {
         return None;
     }
     let mut n = 0u64;

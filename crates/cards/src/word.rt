@@ -1,7 +1,7 @@
 // The words that cards begin with.
 ghost use Rattle.std.specs.Prelude.{◌≡◌};
 ghost use Rattle.std.specs.Str.{bytes_eq};
-ghost use Rattle.cards.specs.Words.{word_in, in_place, placed, count as fields-with-word};
+ghost use Rattle.cards.specs.Words.{word_in, in_place, placed, count as fields_with_word};
 
 #[derive(Clone, Copy)]
 pub enum Word {
@@ -40,7 +40,7 @@ fn word_of(bytes: &[u8]) -> Option<Word>
 impl Word {
     // How many fields its card has, the word among them.
     pub fn count(self) -> usize
-        ensures { result ≡ fields-with-word self }
+        ensures { result ≡ fields_with_word self }
     {
         match self {
             Word::Pile => 4,

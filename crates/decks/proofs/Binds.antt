@@ -17,7 +17,7 @@ use Rattle.cards.specs.Cards.{card_of}
 use Rattle.decks.specs.declared.fault.Fault.{Fault}
 use Rattle.decks.specs.declared.fault.Told.{Told}
 use Rattle.decks.specs.Desks.{Desk, closed, kept_by}
-use Rattle.decks.specs.Sessions.{is_open, Performs, on_card}
+use Rattle.decks.specs.Sessions.{is_desk_open, Performs, on_card}
 use Rattle.decks.specs.Responses.{Reads, end, next, Binding}
 
 same : (d e : Desk) → e ≡ d → Binding d → Binding e
@@ -45,4 +45,4 @@ taken d (Err f) r e (_, is) b = same d e is b
 
 pub reads_bind : {d e : Desk} {n : ℕ} {ls : List (List ℕ)} {t : List ℕ} → Reads d n ls t e → Binding d → Binding e
 reads_bind (end {d} {e} is) b = same d e is b
-reads_bind (next {d} {e} {l = l} r t _ more) b = reads_bind more (taken d (card_of (is_open d) l) r e t b)
+reads_bind (next {d} {e} {l = l} r t _ more) b = reads_bind more (taken d (card_of (is_desk_open d) l) r e t b)

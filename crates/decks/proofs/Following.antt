@@ -30,9 +30,9 @@ pub record Sofar (input rest text : List ℕ) (count : ℕ) (d : Desk) : Type 0 
 pub sofar_none : (input text : List ℕ) (count : ℕ) (d : Desk) → text ≡ [] → count ≡ 0 → d ≡ closed → Sofar input input text count d
 sofar_none input text count d t c is = record { before = []; split = refl; counted = c; reads = rw t (end is) }
 
-pub sofar_more : (input rest after text more : List ℕ) (count next-count number : ℕ) (d e : Desk) (l : List ℕ) (r : Result Told Fault) → Sofar input rest text count d
-    → lines_of rest ≡ l ∷ lines_of after → number ≡ count + 1 → next-count ≡ count + 1 → Takes d l r e → more ≡ text ++ answer_text number r → Sofar input after more next-count e
-sofar_more input rest after text more count next-count number d e l r so first n c t w = record {
+pub sofar_more : (input rest after text more : List ℕ) (count next_count number : ℕ) (d e : Desk) (l : List ℕ) (r : Result Told Fault) → Sofar input rest text count d
+    → lines_of rest ≡ l ∷ lines_of after → number ≡ count + 1 → next_count ≡ count + 1 → Takes d l r e → more ≡ text ++ answer_text number r → Sofar input after more next_count e
+sofar_more input rest after text more count next_count number d e l r so first n c t w = record {
   before = so.before ++ l ∷ [];
   split = append_assoc so.before (l ∷ []) (lines_of after) ∙ ap (λ x. so.before ++ x) (sym first) ∙ so.split;
   counted = c ∙ sym (length_push so.before l ∙ ap (λ k. k + 1) (sym so.counted));

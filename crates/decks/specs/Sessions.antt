@@ -1,13 +1,13 @@
 -- What a session makes of a card.
 --
---     desk_of s        the desk of the session s
---     is_open d        the desk is open
---     Opens n d r      a pile's card on a closed desk: refused by the first number that names nothing, or the desk is open by that pile, with
---                      an empty ledger
+--     desk_of s             the desk of the session s
+--     is_desk_open d        the desk is open
+--     Opens n d r           a pile's card on a closed desk: refused by the first number that names nothing, or the desk is open by that pile, with
+--                           an empty ledger
 --     Turns p show S r d    a call of the book on the pile p: S says what it answers and leaves, and show what is told of its answer
 --     Performs d c r e      the card c on the desk d is answered by r and leaves e; a card out of place is refused as one without a word
 --     Takes d line r e      the line is answered by r: the first fault of what is no card, or what the card does
---     Stopping r P     P holds of the answer r, unless memory was wanted
+--     Stopping r P          P holds of the answer r, unless memory was wanted
 --
 -- Assumes nothing.
 use Rattle.std.specs.Prelude.{◌≡◌, ℕ, Bool, true, false, List, Some, None, Ok, Err, Option, Result}
@@ -42,9 +42,9 @@ desk_with (Some b) = kept_by b.edition (ledger_of b)
 abbrev pub desk_of : Session → Desk
 desk_of s = desk_with s.book
 
-abbrev pub is_open : Desk → Bool
-is_open closed = false
-is_open (kept_by p l) = true
+abbrev pub is_desk_open : Desk → Bool
+is_desk_open closed = false
+is_desk_open (kept_by p l) = true
 
 abbrev pub Opens : PileNumbers → Desk → Result Told Fault → Desk → Type 0
 Opens n d (Ok x) e = (x ≡ Nothing) × (fault_of_pile n.edition n.divisor n.can ≡ None) × (p : Pile) × PileNamed p n.edition n.divisor n.can × (e ≡ kept_by p empty)
@@ -80,7 +80,7 @@ on_card d (Err f) r e = (r ≡ Err (fault.Card f)) × (e ≡ d)
 on_card d (Ok c) r e = Performs d c r e
 
 abbrev pub Takes : Desk → List ℕ → Result Told Fault → Desk → Type 0
-Takes d line r e = on_card d (card_of (is_open d) line) r e
+Takes d line r e = on_card d (card_of (is_desk_open d) line) r e
 
 -- A fault is the answer; a want of memory promises nothing.
 abbrev pub Stopping : Result Told Stop → (Result Told Fault → Type 0) → Type 0

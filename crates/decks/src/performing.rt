@@ -2,7 +2,7 @@
 ghost use Rattle.std.specs.Prelude.{◌≡◌};
 ghost use Rattle.cards.specs.declared.card.Card.TheVariants.{Pile as PileCard, Joint, Brace, Force, Check};
 ghost use Rattle.decks.specs.Desks.{closed};
-ghost use Rattle.decks.specs.Sessions.{desk_of, is_open, Performs, Takes, Stopping};
+ghost use Rattle.decks.specs.Sessions.{desk_of, is_desk_open, Performs, Takes, Stopping};
 
 use crate::fault::{Fault, Stop, Told};
 use crate::session::Session;
@@ -22,7 +22,7 @@ impl Session {
     }
 
     pub fn is_open(&self) -> bool
-        ensures { result ≡ is_open (desk_of self.now) }
+        ensures { result ≡ is_desk_open (desk_of self.now) }
     {
         self.book.is_some()
     }

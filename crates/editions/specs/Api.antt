@@ -1,9 +1,9 @@
 -- API RP 2A-WSD, 21st edition with Supplement 3: the factor of each kind.
 --
---     gapped r            the gap factor of a gap, 1 + 0.2 (1 − 2.8 g/D)³, at least 1
---     between r           linear in g/D from the overlap's value at −0.05 to 1.1272112 at 0.05
---     q_g row r           the gap factor Qg
---     factor_by_api r k      the factor of the kind k
+--     gapped r             the gap factor of a gap, 1 + 0.2 (1 − 2.8 g/D)³, at least 1
+--     between r            linear in g/D from the overlap's value at −0.05 to 1.1272112 at 0.05
+--     q_g row r            the gap factor Qg
+--     factor_by_api r k    the factor of the kind k
 --
 -- That this is the printed standard is not proved: docs/RULES.md has it to compare. Assumes nothing.
 use Rattle.std.specs.Prelude.{◌+◌, ◌-◌, ◌*◌}

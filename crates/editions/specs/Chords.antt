@@ -1,18 +1,18 @@
 -- The chord's factor Qf of both editions, as an exact quotient with a sign.
 --
---     ChordFactor          a quotient num / den whose numerator has a sign
---     spent f              f < 1/10
---     as_fraction f        f without its sign, for a chord that is not spent
---     api_q_f c q          Qf = 1 + C1 P − C2 I − C3 (P² + I² + O²), with P, I and O the ratios over 10,000
---     tenths c1 c2 c3      coefficients in tenths
---     coefficients_by_api r k C1, C2, C3 for the kind k
---     api_chord_factor r q k    Qf by API
---     iso_q_f c q          Qf = 1 − w (C1 P² + C2 (I² + O²))
---     weights_by_iso k        w in thousandths, C1 and C2 for the kind k
---     iso_chord_factor r q k    Qf by ISO
---     Left f z             the chord is not spent, and z is its Qf
---     ChordTold f a        the answer a is Qf, or none where the chord is spent
---     Moderate, Split      what the steps of the computation promise one another
+--     ChordFactor                a quotient num / den whose numerator has a sign
+--     spent f                    f < 1/10
+--     as_fraction f              f without its sign, for a chord that is not spent
+--     api_q_f c q                Qf = 1 + C1 P − C2 I − C3 (P² + I² + O²), with P, I and O the ratios over 10,000
+--     tenths c1 c2 c3            coefficients in tenths
+--     coefficients_by_api r k    C1, C2, C3 for the kind k
+--     api_chord_factor r q k     Qf by API
+--     iso_q_f c q                Qf = 1 − w (C1 P² + C2 (I² + O²))
+--     weights_by_iso k           w in thousandths, C1 and C2 for the kind k
+--     iso_chord_factor r q k     Qf by ISO
+--     Left f z                   the chord is not spent, and z is its Qf
+--     ChordTold f a              the answer a is Qf, or none where the chord is spent
+--     Moderate, Split            what the steps of the computation promise one another
 --
 -- Qf is not cut at 1. Assumes nothing.
 use Rattle.std.specs.Prelude.{◌≡◌, ℕ, ◌-◌, ◌*◌, ◌≤◌, Bool, true, false, cond, ℤ, pos, ◌+ℤ◌, ◌-ℤ◌, ◌*ℤ◌, Some, None, Option, int_lt}

@@ -1,11 +1,11 @@
 -- Rows of the tables that both editions share, and what is promised of every factor.
 --
---     q_beta r            Qβ = 0.3 / (β (1 − 0.833 β)) for β > 0.6, else 1
---     overlapped r        the gap factor of an overlap, 0.13 + 0.65 φ √γ
---     factor_of_y_tension r         30 β
---     factor_of_x_tension r         23 β for β ≤ 0.9, else 20.7 + (β − 0.9)(17 γ − 220)
---     factor_of_x_compression r     (2.8 + (12 + 0.1 γ) β) Qβ
---     Factor z φ          z encloses the factor φ, lies between 1.34 and 990, and is less than a part in a million wide
+--     q_beta r                     Qβ = 0.3 / (β (1 − 0.833 β)) for β > 0.6, else 1
+--     overlapped r                 the gap factor of an overlap, 0.13 + 0.65 φ √γ
+--     factor_of_y_tension r        30 β
+--     factor_of_x_tension r        23 β for β ≤ 0.9, else 20.7 + (β − 0.9)(17 γ − 220)
+--     factor_of_x_compression r    (2.8 + (12 + 0.1 γ) β) Qβ
+--     Factor z φ                   z encloses the factor φ, lies between 1.34 and 990, and is less than a part in a million wide
 --
 -- That these rows are those of the printed standards is not proved: docs/RULES.md has them to compare. Assumes nothing.
 use Rattle.std.specs.Prelude.{◌<◌, cond}

@@ -1,12 +1,12 @@
 -- Which row of the rules applies to a brace.
 --
---     above_six_tenths r      β > 0.6
---     above_nine_tenths r     β > 0.9
---     gap_row_by_api r           API: a gap where g/D ≥ 0.05, an overlap where g/D ≤ −0.05, between them for the rest
---     ApiBetween r            −0.05 < g/D < 0.05
---     gap_row_by_iso r           ISO: a gap where 5 g ≥ T, an overlap where 5 g ≤ −T, between them for the rest
---     IsoGap r                5 g ≥ T
---     IsoBetween r            −T < 5 g < T
+--     above_six_tenths r     β > 0.6
+--     above_nine_tenths r    β > 0.9
+--     gap_row_by_api r       API: a gap where g/D ≥ 0.05, an overlap where g/D ≤ −0.05, between them for the rest
+--     ApiBetween r           −0.05 < g/D < 0.05
+--     gap_row_by_iso r       ISO: a gap where 5 g ≥ T, an overlap where 5 g ≤ −T, between them for the rest
+--     IsoGap r               5 g ≥ T
+--     IsoBetween r           −T < 5 g < T
 --
 -- Assumes nothing.
 use Rattle.std.specs.Prelude.{◌*◌, ◌<◌, ◌≤◌, Bool, cond, nat_le, nat_lt}

@@ -1,4 +1,5 @@
 -- From the ends of a factor to what an edition tells, once for every table of formulas.
+-- Here and not in proofs/, since an impl's law has to cite them; a reader of the promises needs none of it. Assumes nothing.
 use Rattle.std.specs.Prelude.{ℕ, ◌+◌, ◌*◌, ◌^◌, ◌≤◌}
 use Rattle.std.proofs.Common.{arith}
 use Rattle.powers.specs.declared.ends.Ends.{Ends}

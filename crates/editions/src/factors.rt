@@ -3,7 +3,7 @@ ghost use Rattle.std.specs.Prelude.{◌*◌, ◌≤◌};
 ghost use Rattle.powers.specs.Fractions.{number};
 ghost use Rattle.powers.specs.Formulas.{power};
 ghost use Rattle.powers.specs.Enclosures.{Near, Is, milli};
-ghost use Rattle.editions.specs.Figures.{gamma as of-gamma};
+ghost use Rattle.editions.specs.Figures.{gamma as of_gamma};
 ghost use Rattle.editions.specs.Factors.{Factor, q_beta, overlapped, factor_of_y_tension, factor_of_x_tension, factor_of_x_compression};
 
 use crate::figures::{beta, gamma, times};
@@ -32,7 +32,7 @@ pub fn beta_factor(r: &BraceRecord) -> Quotient
 
 // √γ
 pub fn gamma_root(r: &BraceRecord) -> Ends
-    ensures { Near result (power (of-gamma r.now) (number 1 2)) (milli 3159) (milli 7073) 3 }
+    ensures { Near result (power (of_gamma r.now) (number 1 2)) (milli 3159) (milli 7073) 3 }
 {
     square_root(gamma(r))
 }

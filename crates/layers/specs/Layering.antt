@@ -1,4 +1,5 @@
 -- Layers over any edition: their laws, what they tell, and the multiplier of a can.
+-- Here and not in proofs/, since an impl's law has to cite them; a reader of the promises needs none of it. Assumes nothing.
 use Rattle.std.specs.Prelude.{◌≡◌, ℕ, ◌+◌, ◌-◌, ◌*◌, ◌/◌, ◌<◌, ◌≤◌, min, refl}
 use Rattle.std.proofs.Common.{ap, mul-le-mul_right, mul-le-mul_left, mul-pos, le_of_mul-le-mul_right, lt_of_mul-lt-mul_right, div-mul-le_self, arith}
 use Rattle.std.proofs.lemmas.Bool.{cond_both, leb-true, leb-false}

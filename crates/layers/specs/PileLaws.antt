@@ -1,4 +1,5 @@
 -- The laws of the editions that a card can name.
+-- Here and not in proofs/, since an impl's law has to cite them; a reader of the promises needs none of it. Assumes nothing.
 use Rattle.editions.specs.Api.{factor_by_api}
 use Rattle.editions.specs.Iso.{factor_by_iso}
 use Rattle.editions.specs.Chords.{api_chord_factor, iso_chord_factor}

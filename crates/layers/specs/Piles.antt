@@ -3,7 +3,7 @@
 --     DivisorOver d e c      d is the divisor of c hundredths over the edition e
 --     NoDivisorOver n e c    c is no divisor, and n hands e back
 --     outside a x b          x is not from a to b
---     fault_of_pile e c k       the first of the edition, the divisor and the can that names nothing
+--     fault_of_pile e c k    the first of the edition, the divisor and the can that names nothing
 --     BareNamed b n          b is the edition of that number
 --     PileNamed p e c k      p has the edition e, a can if k is 1, and on top the divisor c unless c is 100
 --

@@ -10,7 +10,7 @@ use Rattle.ledger.specs.declared.entries.Brace.{Brace}
 use Rattle.ledger.specs.declared.entries.Worst.{Worst}
 use Rattle.ledger.specs.declared.refusal.Refusal.{Refusal}
 use Rattle.ledger.specs.declared.refusal.Refusal.TheVariants.{Unchecked}
-use Rattle.ledger.specs.Worsts.{reach, beyond, over, Under, NotOver, NotChecked, Highest, Worst_of, is_checked, Names, with_verdict, with_brace}
+use Rattle.ledger.specs.Worsts.{reach, beyond, over, Under, NotOver, NotChecked, Highest, WorstOf, is_checked, Names, with_verdict, with_brace}
 use Rattle.ledger.specs.Ledger.{find, Ledger}
 
 no_way : {A : Type 0} → false ≡ true → A
@@ -85,9 +85,9 @@ all_steps bs (b ∷ rest) a s =
 best_of_fold : (bs : List Brace) → BestOf bs (fold with_brace None bs)
 best_of_fold bs = all_steps [] bs None tt
 
-pub answers : (bs : List Brace) (a : Option Worst) (r : Result Worst Refusal) → a ≡ fold with_brace None bs → r ≡ ok_or a Unchecked → Worst_of bs r
-answers bs None r e h = subst (Worst_of bs) (sym h) (refl, subst (BestOf bs) (sym e) (best_of_fold bs))
-answers bs (Some w) r e h = subst (Worst_of bs) (sym h) (subst (BestOf bs) (sym e) (best_of_fold bs))
+pub answers : (bs : List Brace) (a : Option Worst) (r : Result Worst Refusal) → a ≡ fold with_brace None bs → r ≡ ok_or a Unchecked → WorstOf bs r
+answers bs None r e h = subst (WorstOf bs) (sym h) (refl, subst (BestOf bs) (sym e) (best_of_fold bs))
+answers bs (Some w) r e h = subst (WorstOf bs) (sym h) (subst (BestOf bs) (sym e) (best_of_fold bs))
 
 none_checked : (bs : List Brace) → AllByRecursion NotChecked bs → is_some (find is_checked bs) ≡ false
 none_checked [] a = refl

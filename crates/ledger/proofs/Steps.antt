@@ -13,21 +13,21 @@ use Rattle.verdicts.specs.declared.forces.ForceFigures.{ForceFigures}
 use Rattle.ledger.specs.declared.entries.Brace.{Brace}
 use Rattle.ledger.specs.Causes.{Cause, because, cause}
 use Rattle.ledger.specs.Places.{Found, At}
-use Rattle.ledger.specs.Ledger.{find, Ledger, Does, is_joint, is_brace, at_joint, number_of, figure_cause, misfit_cause, first_cause, enter_at, enter_cause, brace_cause, add_at, add_cause, standing, standing_at, Amended, load_at, load_cause, force_cause, note_at, note_cause}
+use Rattle.ledger.specs.Ledger.{find, Ledger, Does, is_joint, is_brace, at_joint, number_from, figure_cause, misfit_cause, first_cause, enter_at, enter_cause, brace_cause, add_at, add_cause, standing, standing_at, Amended, load_at, load_cause, force_cause, note_at, note_cause}
 
 -- A refusal that came through a question mark.
 pub passed : {T : Type 0} (why : Option Cause) (then : Type 0) (l : Ledger) (e : Refusal) (r : Result T Refusal) → IsErrAnd r (λ x. x ≡ e) → why ≡ Some (cause e) → Does why then l l r
 passed why then l e (Ok x) h w = absurd h
 passed why then l e (Err x) h w = (w ∙ ap (λ z. Some (cause z)) (sym h), refl)
 
-module _ (j : ℤ) (f : ChordFigures) (l : Ledger) (n : ℕ) (number : number_of j ≡ Some n) (free : is_some (find (is_joint n) l.joints) ≡ false) (room : leb 16 (length l.joints) ≡ false) where
+module _ (j : ℤ) (f : ChordFigures) (l : Ledger) (n : ℕ) (number : number_from j ≡ Some n) (free : is_some (find (is_joint n) l.joints) ≡ false) (room : leb 16 (length l.joints) ≡ false) where
   pub enter_limits : enter_cause j f l ≡ figure_cause (first_figure_outside (chord_limits f))
   enter_limits = ap (λ o. enter_at o f l) number ∙ cond-false _ _ _ free ∙ cond-false _ _ _ room
 
-module _ (j b : ℤ) (f : BraceFigures) (l : Ledger) (n m i : ℕ) (joint : number_of j ≡ Some n) (brace : number_of b ≡ Some m) (free : is_some (find (is_brace n m) l.braces) ≡ false) (there : Found (is_joint n) l.joints i) where
+module _ (j b : ℤ) (f : BraceFigures) (l : Ledger) (n m i : ℕ) (joint : number_from j ≡ Some n) (brace : number_from b ≡ Some m) (free : is_some (find (is_brace n m) l.braces) ≡ false) (there : Found (is_joint n) l.joints i) where
   add_past : add_cause j b f l ≡ first_cause ((leb 96 (length l.braces), because 6 (pos 96)) ∷ (leb 8 (count_by (at_joint n) l.braces), because 6 (pos 8)) ∷ []) (brace_cause (find (is_joint n) l.joints) f)
   add_past =
-      ap (λ o. add_at o (number_of b) f l) joint
+      ap (λ o. add_at o (number_from b) f l) joint
       ∙ ap (λ o. add_at (Some n) o f l) brace
       ∙ cond-false _ _ _ free
       ∙ cond-false _ _ _ (ap (λ o. not (is_some o)) there.there)
@@ -42,7 +42,7 @@ module _ (j b : ℤ) (f : BraceFigures) (l : Ledger) (n m i : ℕ) (joint : numb
   add_limits h k c e = add_past ∙ cond-false _ _ _ h ∙ cond-false _ _ _ k ∙ ap (λ o. brace_cause o f) there.there ∙ ap (λ z. misfit_cause (brace_fault z f)) (sym e)
 
 -- The place of the brace of these numbers.
-pub stood : (j b : ℤ) (l : Ledger) (n m i : ℕ) → number_of j ≡ Some n → number_of b ≡ Some m → is_some (find (is_joint n) l.joints) ≡ true → Found (is_brace n m) l.braces i → At j b l i
+pub stood : (j b : ℤ) (l : Ledger) (n m i : ℕ) → number_from j ≡ Some n → number_from b ≡ Some m → is_some (find (is_joint n) l.joints) ≡ true → Found (is_brace n m) l.braces i → At j b l i
 unfolding standing
 stood j b l n m i joint brace there found = record {
   joint = n;
@@ -51,7 +51,7 @@ stood j b l n m i joint brace there found = record {
   numbered = brace;
   found = found;
   stands =
-      ap (λ o. standing_at o (number_of b) l) joint
+      ap (λ o. standing_at o (number_from b) l) joint
       ∙ ap (λ o. standing_at (Some n) o l) brace
       ∙ cond-true _ _ _ there
       ∙ ap (λ o. ok_or o (because 5 (pos 3))) found.there;

@@ -1,21 +1,21 @@
 -- The ledger: what stands in a book, and what each call does to it.
 --
---     Ledger                joints in order of entering, braces in order of adding
---     holding t             what the tables t hold
---     number_of z           z as a joint's or a brace's number, if it is from 1 to 999
---     find p xs             the first of xs that passes p
---     amend p f xs          the first that passes is changed by f
---     without p xs          the first that passes is taken out
---     is_joint, is_brace    the joint with this number, the brace with this number at this joint
---     first_cause ts x      the cause of the first test of ts that holds; else x
---     Does why then l m r   r is what a call answers: a refusal by the cause why, which leaves the ledger as it was, or, with no cause, then
+--     Ledger                     joints in order of entering, braces in order of adding
+--     holding t                  what the tables t hold
+--     number_from z              z as a joint's or a brace's number, if it is from 1 to 999
+--     find p xs                  the first of xs that passes p
+--     amend p f xs               the first that passes is changed by f
+--     without p xs               the first that passes is taken out
+--     is_joint, is_brace         the joint with this number, the brace with this number at this joint
+--     first_cause ts x           the cause of the first test of ts that holds; else x
+--     Does why then l m r        r is what a call answers: a refusal by the cause why, which leaves the ledger as it was, or, with no cause, then
 --     DoesWith why then l m r    the same, where what then stands is said of the answer
 --     enter_cause, add_cause, load_cause, note_cause, withdraw_cause    why a call is refused, if it is
---     Entered, Added, Loaded, Noted, Withdrawn                          what stands after a call that is not
---     Enters, Adds, Loads, Notes, Withdraws                             both: what the call answers, and what then stands
---     standing j b l        the brace of these numbers, or why there is none
---     Amended j b f l m     m is l with that brace changed by f
---     Told j b l r          r is the record and the force of that brace, or why there are none
+--     Entered, Added, Loaded, Noted, Withdrawn    what stands after a call that is not
+--     Enters, Adds, Loads, Notes, Withdraws    both: what the call answers, and what then stands
+--     standing j b l             the brace of these numbers, or why there is none
+--     Amended j b f l m          m is l with that brace changed by f
+--     Told j b l r               r is the record and the force of that brace, or why there are none
 --
 -- Assumes nothing.
 use Rattle.std.specs.Prelude.{◌≡◌, ℕ, Bool, cond, not, ◌&&◌, List, [], ◌∷◌, ◌++◌, length, ℤ, pos, is_some, Some, None, Ok, Err, vec_items, count_by, filter, Option, Result, ◌==◌, int_le, nat_le, unsigned_abs}
@@ -62,8 +62,8 @@ without p [] = []
 without p (x ∷ xs) = cond (p x) xs (x ∷ without p xs)
 
 -- ---- numbers
-abbrev pub number_of : ℤ → Option ℕ
-number_of z = cond (int_le (pos 1) z && int_le z (pos 999)) (Some (unsigned_abs z)) None
+abbrev pub number_from : ℤ → Option ℕ
+number_from z = cond (int_le (pos 1) z && int_le z (pos 999)) (Some (unsigned_abs z)) None
 
 abbrev pub is_joint : ℕ → Joint → Bool
 is_joint n j = j.number == n
@@ -109,13 +109,13 @@ enter_at (Some n) f l =
     (figure_cause (first_figure_outside (chord_limits f)))
 
 abbrev pub enter_cause : ℤ → ChordFigures → Ledger → Option Cause
-enter_cause j f l = enter_at (number_of j) f l
+enter_cause j f l = enter_at (number_from j) f l
 
 -- The chord stands last, under its number.
 pub record Entered (j : ℤ) (f : ChordFigures) (l m : Ledger) : Type 0 where
   pub number : ℕ
   pub chord : Chord
-  pub numbered : number_of j ≡ Some number
+  pub numbered : number_from j ≡ Some number
   pub is : IsChord chord f
   pub joints : m.joints ≡ l.joints ++ (record { number = number; chord = chord }) ∷ []
   pub braces : m.braces ≡ l.braces
@@ -140,7 +140,7 @@ add_at (Some n) (Some m) f l =
     (brace_cause (find (is_joint n) l.joints) f)
 
 abbrev pub add_cause : ℤ → ℤ → BraceFigures → Ledger → Option Cause
-add_cause j b f l = add_at (number_of j) (number_of b) f l
+add_cause j b f l = add_at (number_from j) (number_from b) f l
 
 -- The brace stands last, at the chord of its joint, with no force and no check.
 pub record Added (j b : ℤ) (f : BraceFigures) (l m : Ledger) : Type 0 where
@@ -148,8 +148,8 @@ pub record Added (j b : ℤ) (f : BraceFigures) (l m : Ledger) : Type 0 where
   pub number : ℕ
   pub stands : Joint
   pub figures : BraceRecord
-  pub joint_numbered : number_of j ≡ Some joint
-  pub numbered : number_of b ≡ Some number
+  pub joint_numbered : number_from j ≡ Some joint
+  pub numbered : number_from b ≡ Some number
   pub at : find (is_joint joint) l.joints ≡ Some stands
   pub is : IsBrace figures stands.chord f
   pub joints : m.joints ≡ l.joints
@@ -166,14 +166,14 @@ standing_at (Some n) (Some m) l =
     cond (is_some (find (is_joint n) l.joints)) (ok_or (find (is_brace n m) l.braces) (because 5 (pos 3))) (Err (because 5 (pos 2)))
 
 unfoldable pub standing : ℤ → ℤ → Ledger → Result Brace Cause
-standing j b l = standing_at (number_of j) (number_of b) l
+standing j b l = standing_at (number_from j) (number_from b) l
 
 -- Only the first brace with these numbers is changed.
 pub record Amended (j b : ℤ) (f : Brace → Brace) (l m : Ledger) : Type 0 where
   pub joint : ℕ
   pub number : ℕ
-  pub joint_numbered : number_of j ≡ Some joint
-  pub numbered : number_of b ≡ Some number
+  pub joint_numbered : number_from j ≡ Some joint
+  pub numbered : number_from b ≡ Some number
   pub joints : m.joints ≡ l.joints
   pub braces : m.braces ≡ amend (is_brace joint number) f l.braces
 
@@ -229,12 +229,12 @@ withdraw_at None l = Some (because 3 (pos 2))
 withdraw_at (Some n) l = cond (is_some (find (is_joint n) l.joints)) None (Some (because 5 (pos 2)))
 
 abbrev pub withdraw_cause : ℤ → Ledger → Option Cause
-withdraw_cause j l = withdraw_at (number_of j) l
+withdraw_cause j l = withdraw_at (number_from j) l
 
 -- The joint goes with its braces; the others keep their order.
 pub record Withdrawn (j : ℤ) (l m : Ledger) : Type 0 where
   pub number : ℕ
-  pub numbered : number_of j ≡ Some number
+  pub numbered : number_from j ≡ Some number
   pub joints : m.joints ≡ without (is_joint number) l.joints
   pub braces : m.braces ≡ filter (elsewhere number) l.braces
 

@@ -8,7 +8,7 @@ use Rattle.std.specs.Prelude.{◌≡◌, ℕ, ◌<◌, Bool, List, length, ℤ, 
 use Rattle.std.specs.List.{remove}
 use Rattle.ledger.specs.declared.refusal.Refusal.{Refusal}
 use Rattle.ledger.specs.Causes.{cause}
-use Rattle.ledger.specs.Ledger.{Ledger, find, amend, without, number_of, is_brace, standing}
+use Rattle.ledger.specs.Ledger.{Ledger, find, amend, without, number_from, is_brace, standing}
 
 pub record Found {X : Type 0} (p : X → Bool) (xs : List X) (i : ℕ) : Type 0 where
   pub within : i < length xs
@@ -21,8 +21,8 @@ pub record Found {X : Type 0} (p : X → Bool) (xs : List X) (i : ℕ) : Type 0 
 pub record At (j b : ℤ) (l : Ledger) (i : ℕ) : Type 0 where
   pub joint : ℕ
   pub number : ℕ
-  pub joint_numbered : number_of j ≡ Some joint
-  pub numbered : number_of b ≡ Some number
+  pub joint_numbered : number_from j ≡ Some joint
+  pub numbered : number_from b ≡ Some number
   pub found : Found (is_brace joint number) l.braces i
   pub stands : standing j b l ≡ Ok found.held
 

@@ -1,13 +1,13 @@
 -- The worst brace.
 --
---     reach v          the upper end of the verdict v; none for FAR, which reaches beyond every end
---     over v w         v reaches higher than w
---     Under, NotOver   a check that stands at a brace is under a verdict, or not over it
---     Highest bs w     w names the first brace of those whose checks reach highest
---     with_brace w b   the worst so far, w, with one more brace
---     Worst_of bs r    r is such a brace, or the refusal that no check stands
---     worst_cause l    why there is none to name: no check stands
---     Names l r        r is the worst brace of the ledger l, or that refusal
+--     reach v           the upper end of the verdict v; none for FAR, which reaches beyond every end
+--     over v w          v reaches higher than w
+--     Under, NotOver    a check that stands at a brace is under a verdict, or not over it
+--     Highest bs w      w names the first brace of those whose checks reach highest
+--     with_brace w b    the worst so far, w, with one more brace
+--     WorstOf bs r      r is such a brace, or the refusal that no check stands
+--     worst_cause l     why there is none to name: no check stands
+--     Names l r         r is the worst brace of the ledger l, or that refusal
 --
 -- Assumes nothing.
 use Rattle.std.specs.Prelude.{◌≡◌, ℕ, Bool, true, false, cond, List, ◌∷◌, ◌++◌, is_some, Some, None, Ok, Err, Option, Result, nat_lt}
@@ -65,9 +65,9 @@ with_verdict (Some w) b (Some v) = cond (over v w.verdict) (Some (record { joint
 abbrev pub with_brace : Option Worst → Brace → Option Worst
 with_brace w b = with_verdict w b b.check
 
-abbrev pub Worst_of : List Brace → Result Worst Refusal → Type 0
-Worst_of bs (Ok w) = Highest bs w
-Worst_of bs (Err e) = (e ≡ Unchecked) × AllByRecursion NotChecked bs
+abbrev pub WorstOf : List Brace → Result Worst Refusal → Type 0
+WorstOf bs (Ok w) = Highest bs w
+WorstOf bs (Err e) = (e ≡ Unchecked) × AllByRecursion NotChecked bs
 
 abbrev pub is_checked : Brace → Bool
 is_checked b = is_some b.check

@@ -1,8 +1,8 @@
 // The calls on the tables, each as the ledger has it.
 ghost use Rattle.std.specs.Prelude.{◌≡◌, ◌≤◌, is_some, IfOk, None, vec_len, vec_capacity, count_by, filter, MatchOption};
-ghost use Rattle.ledger.specs.Ledger.{empty, holding, find, number_of, is_joint, is_brace, at_joint, elsewhere, Does, enter_cause, Entered, add_cause, Added, load_cause, Loaded, Told, note_cause, Noted, withdraw_cause, Withdrawn};
+ghost use Rattle.ledger.specs.Ledger.{empty, holding, find, number_from, is_joint, is_brace, at_joint, elsewhere, Does, enter_cause, Entered, add_cause, Added, load_cause, Loaded, Told, note_cause, Noted, withdraw_cause, Withdrawn};
 ghost use Rattle.ledger.specs.Places.{Found, Stood};
-ghost use Rattle.ledger.specs.Worsts.{reach, over, with_brace, Worst_of, Names};
+ghost use Rattle.ledger.specs.Worsts.{reach, over, with_brace, WorstOf, Names};
 
 use crate::entries::{Brace, Joint, Worst};
 use crate::refusal::{Place, Refusal, Room};
@@ -15,7 +15,7 @@ use verdicts::forces::ForceFigures;
 use verdicts::verdict::Verdict;
 
 fn number_of(n: i64) -> Option<u32>
-    ensures { result ≡ number_of n }
+    ensures { result ≡ number_from n }
 {
     if 1 <= n && n <= 999 {
         Some(n as u32)
@@ -248,7 +248,7 @@ impl Tables {
 
     // An indexed walk in order of adding, keeping the first that reaches highest.
     pub fn worst(&self) -> Result<Worst, Refusal>
-        ensures worst { Worst_of (holding self.now).braces result }
+        ensures worst { WorstOf (holding self.now).braces result }
         ensures names { Names (holding self.now) result }
     {
         let mut best = None;

@@ -1,13 +1,13 @@
 -- The limits of the figures of a chord, a brace and a force's chord ratios, and which is the first outside them.
 --
---     limit x low value high    a row of limits: the figure x asks that the value is from low to high
---     outside l                 the value of the row l is not
---     first_figure_outside rows        the figure of the first row whose value is outside
---     chord_limits f            the rows of a chord, in the order of its figures; a row that compares two figures is the later one's
---     brace_limits c f          the rows of a brace at the chord c
---     ratio_limits f            the rows of the chord's ratios
---     shares_sum f              the sum of the shares
---     brace_fault c f           why f makes no brace at the chord c, if it makes none
+--     limit x low value high       a row of limits: the figure x asks that the value is from low to high
+--     outside l                    the value of the row l is not
+--     first_figure_outside rows    the figure of the first row whose value is outside
+--     chord_limits f               the rows of a chord, in the order of its figures; a row that compares two figures is the later one's
+--     brace_limits c f             the rows of a brace at the chord c
+--     ratio_limits f               the rows of the chord's ratios
+--     shares_sum f                 the sum of the shares
+--     brace_fault c f              why f makes no brace at the chord c, if it makes none
 --     IsChord c f, IsBrace b c f, IsRatios q f    the record holds just these figures
 --
 -- Assumes nothing.

@@ -1,11 +1,11 @@
 -- What the steps of a check promise one another. The promise to callers is in Verdicts.
 --
---     Sound low high         ends as a usable edition tells them
+--     Sound low high             ends as a usable edition tells them
 --     KnownOf, Knows, Knowing    what is known of the strengths in use
---     based b w              fy T² w, in hundredths of newtons
---     Encloses load b r e    e is the load over the resistance r, in millionths
---     Summed a i o e         e is the sum of the three ratios' ends, the one in the middle squared
---     Follows a i o v        v is the verdict that follows from them
+--     based b w                  fy T² w, in hundredths of newtons
+--     Encloses load b r e        e is the load over the resistance r, in millionths
+--     Summed a i o e             e is the sum of the three ratios' ends, the one in the middle squared
+--     Follows a i o v            v is the verdict that follows from them
 --
 -- Assumes nothing.
 use Rattle.std.specs.Prelude.{◌≡◌, ℕ, ◌+◌, ◌*◌, ◌/◌, ◌<◌, ◌≤◌, false}

@@ -7,10 +7,10 @@ use Rattle.cards.proofs.Signs.{front_small, digit_value, no_digit}
 use Rattle.cards.proofs.numbers.digits.Goals as goal
 
 pub overflow_mul-n : goal.overflow_mul-n
-overflow_mul-n c = omega (arith, front_small c.args.field.now c.loop-b.b-index c.loop-b-test.true c.if-field-gt10.false c.loop-b.invariant.1)
+overflow_mul-n c = omega (arith, front_small c.args.field.now c.loop-b.b-index c.loop-b-test.true c.if-field-gt-MOST_DIGITS.false c.loop-b.invariant.1)
 
 pub overflow_add-n : goal.overflow_add-n
-overflow_add-n c = omega (arith, front_small c.args.field.now c.loop-b.b-index c.loop-b-test.true c.if-field-gt10.false c.loop-b.invariant.1)
+overflow_add-n c = omega (arith, front_small c.args.field.now c.loop-b.b-index c.loop-b-test.true c.if-field-gt-MOST_DIGITS.false c.loop-b.invariant.1)
 
 pub returns-in_default : goal.returns-in_default
 returns-in_default c = λ d _. no_digit c.args.field.now c.loop-b.b-index c.loop-b-test.true (λ i. omega arith) d
@@ -29,4 +29,4 @@ pub returns : goal.returns
 returns c =
     let bs = c.args.field.now in
     let e : take c.loop-b.b-index bs ≡ bs = take_all c.loop-b.b-index bs c.loop-b-test.false in
-    (c.if-field-gt10.false, subst (AllDigits 10) e c.loop-b.invariant.1, c.loop-b.invariant.0 ∙ ap (digits_value 10) e)
+    (c.if-field-gt-MOST_DIGITS.false, subst (AllDigits 10) e c.loop-b.invariant.1, c.loop-b.invariant.0 ∙ ap (digits_value 10) e)

@@ -1,22 +1,22 @@
 use Rattle.std.proofs.Common.{◌≡◌, true, false, leb, length, is_some, Some, vec_items, count_by, refl, ap, ◌∙◌, subst, arith, rules}
 use Rattle.std.proofs.lemmas.Bool.{lt-leb}
 use Rattle.records.specs.Limits.{IsBrace}
-use Rattle.ledger.specs.Ledger.{find, holding, number_of, is_brace, at_joint, misfit_cause, Added}
+use Rattle.ledger.specs.Ledger.{find, holding, number_from, is_brace, at_joint, misfit_cause, Added}
 use Rattle.ledger.proofs.Steps.{passed, add_full, add_crowded, add_limits}
 use Rattle.ledger.proofs.tables.Tables.add.Goals as goal
 
 pub returns-then-len-ge96 : goal.returns-then-len-ge96
 returns-then-len-ge96 c =
-    let joint : number_of c.args.joint ≡ Some c.in-Some.n = search rules in
-    let brace : number_of c.args.brace ≡ Some c.in-Some-number_of.number = search rules in
+    let joint : number_from c.args.joint ≡ Some c.in-Some.n = search rules in
+    let brace : number_from c.args.brace ≡ Some c.in-Some-number_of.number = search rules in
     let free : is_some (find (is_brace c.in-Some.n c.in-Some-number_of.number) (vec_items c.args.self.now.braces)) ≡ false = search rules in
     let full : leb 96 (length (vec_items c.args.self.now.braces)) ≡ true = search rules in
     (add_full c.args.joint c.args.brace c.args.figures (holding c.args.self.now) c.in-Some.n c.in-Some-number_of.number c.in-Some-joint_at.i joint brace free c.in-Some-joint_at.ensures.found full, refl)
 
 pub returns-then-count_at-ge8 : goal.returns-then-count_at-ge8
 returns-then-count_at-ge8 c =
-    let joint : number_of c.args.joint ≡ Some c.in-Some.n = search rules in
-    let brace : number_of c.args.brace ≡ Some c.in-Some-number_of.number = search rules in
+    let joint : number_from c.args.joint ≡ Some c.in-Some.n = search rules in
+    let brace : number_from c.args.brace ≡ Some c.in-Some-number_of.number = search rules in
     let free : is_some (find (is_brace c.in-Some.n c.in-Some-number_of.number) (vec_items c.args.self.now.braces)) ≡ false = search rules in
     let room : leb 96 (length (vec_items c.args.self.now.braces)) ≡ false = search rules in
     let crowded : leb 8 (count_by (at_joint c.in-Some.n) (vec_items c.args.self.now.braces)) ≡ true = search rules in
@@ -24,8 +24,8 @@ returns-then-count_at-ge8 c =
 
 pub returns-in_err-figures : goal.returns-in_err-figures
 returns-in_err-figures c =
-    let joint : number_of c.args.joint ≡ Some c.in-Some.n = search rules in
-    let brace : number_of c.args.brace ≡ Some c.in-Some-number_of.number = search rules in
+    let joint : number_from c.args.joint ≡ Some c.in-Some.n = search rules in
+    let brace : number_from c.args.brace ≡ Some c.in-Some-number_of.number = search rules in
     let free : is_some (find (is_brace c.in-Some.n c.in-Some-number_of.number) (vec_items c.args.self.now.braces)) ≡ false = search rules in
     let room : leb 96 (length (vec_items c.args.self.now.braces)) ≡ false = search rules in
     let place : leb 8 (count_by (at_joint c.in-Some.n) (vec_items c.args.self.now.braces)) ≡ false = search rules in
@@ -36,8 +36,8 @@ returns-in_err-figures c =
 
 pub returns : goal.returns
 returns c =
-    let joint : number_of c.args.joint ≡ Some c.in-Some.n = search rules in
-    let brace : number_of c.args.brace ≡ Some c.in-Some-number_of.number = search rules in
+    let joint : number_from c.args.joint ≡ Some c.in-Some.n = search rules in
+    let brace : number_from c.args.brace ≡ Some c.in-Some-number_of.number = search rules in
     let free : is_some (find (is_brace c.in-Some.n c.in-Some-number_of.number) (vec_items c.args.self.now.braces)) ≡ false = search rules in
     let under = c.if-len-ge96.false in
     let counted = c.len.ensures in
