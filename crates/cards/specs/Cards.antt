@@ -1,9 +1,9 @@
 -- The cards.
 --
---     numbers_in k ts     the numbers of the fields ts, of which the first is field k; else the first field that is no number
---     card_of_word w zs      the card of the word w with the numbers zs
---     card_of ready line  the card of a line, where the book is open or not; else its first fault in this order: more than 120 bytes; no
---                         word, or one out of place; another count of fields than the word's; a field that is no number
+--     numbers_in k ts       the numbers of the fields ts, of which the first is field k; else the first field that is no number
+--     card_of_word w zs     the card of the word w with the numbers zs
+--     card_of ready line    the card of a line, where the book is open or not; else its first fault in this order: more than 120 bytes; no
+--                           word, or one out of place; another count of fields than the word's; a field that is no number
 --
 -- Assumes nothing.
 use Rattle.std.specs.Prelude.{ℕ, ◌+◌, Bool, cond, List, [], ◌∷◌, ◌++◌, length, ℤ, pos, Some, None, Ok, Err, Option, Result, ◌==◌, nat_lt, slice_index_or}

@@ -9,7 +9,7 @@
 --     is_joint, is_brace         the joint with this number, the brace with this number at this joint
 --     first_cause ts x           the cause of the first test of ts that holds; else x
 --     Does why then l m r        r is what a call answers: a refusal by the cause why, which leaves the ledger as it was, or, with no cause, then
---     DoesWith why then l m r    the same, where what then stands is said of the answer
+--     DoesWith why then l m r    the same, where `then` speaks of the answer
 --     enter_cause, add_cause, load_cause, note_cause, withdraw_cause    why a call is refused, if it is
 --     Entered, Added, Loaded, Noted, Withdrawn    what stands after a call that is not
 --     Enters, Adds, Loads, Notes, Withdraws    both: what the call answers, and what then stands
