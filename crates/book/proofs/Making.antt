@@ -1,5 +1,6 @@
 -- What the calls come to, over plain variables.
 use Rattle.std.proofs.Common.{◌≡◌, ℤ, Some, Ok, Err, Result, IsErrAnd, sym, ap, ◌∙◌, subst}
+use Rattle.std.specs.Option.{option_or}
 use Rattle.records.specs.declared.record.BraceRecord.{BraceRecord}
 use Rattle.editions.specs.Meanings.{Meaning}
 use Rattle.verdicts.specs.Bindings.{FirstSpent}
@@ -13,14 +14,14 @@ use Rattle.ledger.specs.Ledger.{Ledger, standing, force_cause, note_at, Told, No
 use Rattle.book.specs.declared.book.Book.{Book}
 use Rattle.book.specs.declared.calls.Call.{Call}
 use Rattle.book.specs.declared.calls.Answer.{Answer}
-use Rattle.book.specs.Checks.{Found, Finds, Checks, or_else, kind_cause, spent_at, spent_under}
+use Rattle.book.specs.Checks.{Found, Finds, Checks, kind_cause, spent_at, spent_under}
 use Rattle.book.specs.Uses.{first_spent}
 use Rattle.book.proofs.Uses.{none_found, first_found}
 use Rattle.book.specs.Steps.{Moves, Step, ledger_of}
 
 pub check_made : (m : Meaning) (j b : ℤ) (l k : Ledger) (v : Verdict) → Found m j b v l → Notes j b v l k (Ok tt) → Checks m j b l k (Ok v)
 check_made m j b l k v f (free, noted) = (
-  ap (λ c. or_else c (spent_at m (standing j b l))) free
+  ap (λ c. option_or c (spent_at m (standing j b l))) free
       ∙ ap (spent_at m) f.stands
       ∙ ap (spent_under m f.held.figures) f.loaded
       ∙ ap (λ x. kind_cause (first_spent m x f.force)) f.carried
@@ -33,8 +34,8 @@ pub check_refused : (m : Meaning) (j b : ℤ) (l : Ledger) (f : BraceRecord) (n 
     → Told j b l (Ok (f, n)) → FirstSpent m f n s.kind → Finds m j b l r
 check_refused m j b l f n s (Ok v) h t first = absurd h
 check_refused m j b l f n s (Err e) h t first =
-    ap (λ c. or_else (note_at c) (spent_at m c)) t.1
-    ∙ ap (λ o. or_else (force_cause o) (spent_under m t.0.figures o)) t.3
+    ap (λ c. option_or (note_at c) (spent_at m c)) t.1
+    ∙ ap (λ o. option_or (force_cause o) (spent_under m t.0.figures o)) t.3
     ∙ ap (λ x. kind_cause (first_spent m x n)) t.2
     ∙ ap kind_cause (first_found m f n s.kind first)
     ∙ ap (λ x. Some (cause x)) (sym h)

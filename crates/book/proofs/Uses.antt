@@ -63,27 +63,23 @@ module _ (m : Meaning) (b : BraceRecord) (n : Force) where
       ∙ cond-false _ _ _ (f InPlane tt)
       ∙ cond-false _ _ _ (f OutOfPlane tt)
 
-  -- Where the force is a pull or a push, the kind of a class is known.
-  y_here : (t : Bool) → tension n.n ≡ t → 0 < b.shares.y → spent (kind_of_y t) ≡ true → find spent from_y ≡ Some (kind_of_y t)
-  y_here t e h s = subst (λ (x : Bool). find spent (with_share b.shares.y (kind_of_y x) from_x) ≡ Some (kind_of_y t)) (sym e) (here b.shares.y (kind_of_y t) from_x spent h s)
-
-  x_here : (t : Bool) → tension n.n ≡ t → 0 < b.shares.x → spent (kind_of_x t) ≡ true → find spent from_x ≡ Some (kind_of_x t)
-  x_here t e h s = subst (λ (x : Bool). find spent (with_share b.shares.x (kind_of_x x) of_moments) ≡ Some (kind_of_x t)) (sym e) (here b.shares.x (kind_of_x t) of_moments spent h s)
+  -- Where it is known whether the force is a pull, the kind of a class is known.
+  class_here : (kind : Bool → Kind) (share : ℕ) (ks : List Kind) (t : Bool) → tension n.n ≡ t → 0 < share → spent (kind t) ≡ true
+      → find spent (with_share share (kind (tension n.n)) ks) ≡ Some (kind t)
+  class_here kind share ks t e h s =
+      subst (λ (x : Bool). find spent (with_share share (kind x) ks) ≡ Some (kind t)) (sym e) (here share (kind t) ks spent h s)
 
   y_unspent : (t : Bool) → tension n.n ≡ t → (InUse b n (kind_of_y t) → spent (kind_of_y t) ≡ false) → 0 < b.shares.y → spent (kind_of_y (tension n.n)) ≡ false
   y_unspent t e f h = subst (λ (x : Bool). spent (kind_of_y x) ≡ false) (sym e) (f (subst (λ (x : Bool). InUse b n (kind_of_y x)) e (y_in_use b n h)))
 
-  x_unspent : (t : Bool) → tension n.n ≡ t → (InUse b n (kind_of_x t) → spent (kind_of_x t) ≡ false) → 0 < b.shares.x → spent (kind_of_x (tension n.n)) ≡ false
-  x_unspent t e f h = subst (λ (x : Bool). spent (kind_of_x x) ≡ false) (sym e) (f (subst (λ (x : Bool). InUse b n (kind_of_x x)) e (x_in_use b n h)))
-
   pub first_found : (k : Kind) → FirstSpent m b n k → first_spent m b n ≡ Some k
   first_found KAxial s = here b.shares.k KAxial from_y spent s.used s.spent
-  first_found YTension s = past_k (s.first KAxial (lit< tt)) ∙ y_here true s.used.0 s.used.1 s.spent
-  first_found YCompression s = past_k (s.first KAxial (lit< tt)) ∙ y_here false s.used.0 s.used.1 s.spent
+  first_found YTension s = past_k (s.first KAxial (lit< tt)) ∙ class_here kind_of_y b.shares.y from_x true s.used.0 s.used.1 s.spent
+  first_found YCompression s = past_k (s.first KAxial (lit< tt)) ∙ class_here kind_of_y b.shares.y from_x false s.used.0 s.used.1 s.spent
   first_found XTension s =
-      past_k (s.first KAxial (lit< tt)) ∙ past_y (y_unspent true s.used.0 (s.first YTension (lit< tt))) ∙ x_here true s.used.0 s.used.1 s.spent
+      past_k (s.first KAxial (lit< tt)) ∙ past_y (y_unspent true s.used.0 (s.first YTension (lit< tt))) ∙ class_here kind_of_x b.shares.x of_moments true s.used.0 s.used.1 s.spent
   first_found XCompression s =
-      past_k (s.first KAxial (lit< tt)) ∙ past_y (y_unspent false s.used.0 (s.first YCompression (lit< tt))) ∙ x_here false s.used.0 s.used.1 s.spent
+      past_k (s.first KAxial (lit< tt)) ∙ past_y (y_unspent false s.used.0 (s.first YCompression (lit< tt))) ∙ class_here kind_of_x b.shares.x of_moments false s.used.0 s.used.1 s.spent
   first_found InPlane s =
       past_k (s.first KAxial (lit< tt))
       ∙ past_y (λ h. s.first _ (y_below (tension n.n)) (y_in_use b n h))

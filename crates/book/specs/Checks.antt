@@ -1,6 +1,5 @@
 -- A check as the ledger takes it, fed with the verdict.
 --
---     or_else c d            the cause c, or d if there is none
 --     kind_cause k           the cause that the chord is spent for the kind k
 --     check_cause m j b l    why a check is refused, if it is: there is no such brace, or it is not loaded, or the chord is spent for a kind in use
 --     Found m j b v l        the verdict v binds the reckoners for the record and the force of that brace
@@ -10,6 +9,7 @@
 --
 -- Assumes nothing.
 use Rattle.std.specs.Prelude.{◌≡◌, ℤ, Some, None, Ok, Err, Option, Result}
+use Rattle.std.specs.Option.{option_or}
 use Rattle.records.specs.declared.kind.Kind.{Kind}
 use Rattle.records.specs.declared.record.BraceRecord.{BraceRecord}
 use Rattle.editions.specs.Meanings.{Meaning}
@@ -22,10 +22,6 @@ use Rattle.ledger.specs.declared.entries.Brace.{Brace}
 use Rattle.ledger.specs.declared.refusal.Refusal.{Refusal}
 use Rattle.ledger.specs.declared.refusal.Refusal.TheVariants.{Spent}
 use Rattle.book.specs.Uses.{first_spent}
-
-abbrev pub or_else : Option Cause → Option Cause → Option Cause
-or_else (Some c) d = Some c
-or_else None d = d
 
 abbrev pub kind_cause : Option Kind → Option Cause
 kind_cause None = None
@@ -40,7 +36,7 @@ spent_at m (Err c) = None
 spent_at m (Ok b) = spent_under m b.figures b.force
 
 abbrev pub check_cause : Meaning → ℤ → ℤ → Ledger → Option Cause
-check_cause m j b l = or_else (note_cause j b l) (spent_at m (standing j b l))
+check_cause m j b l = option_or (note_cause j b l) (spent_at m (standing j b l))
 
 -- The verdict v is what a check of that brace answers, by its record and its force.
 pub record Found (m : Meaning) (j b : ℤ) (v : Verdict) (l : Ledger) : Type 0 where
