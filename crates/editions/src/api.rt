@@ -41,16 +41,14 @@ impl Edition for Api {
         100000
     }
 
-    fn tell(&self, brace: &BraceRecord, ratios: Ratios, kind: Kind) -> Strength
+    fn tell(&self, brace: &BraceRecord, ratios: Ratios, kind: Kind) -> Option<Strength>
         ensures tells { Tells api_meaning brace.now ratios kind result }
         ensures fine { Fine result }
     {
-        let Some(left) = api_chord(brace, ratios, kind) else {
-            return Strength::Spent;
-        };
+        let left = api_chord(brace, ratios, kind)?;
         let f = api_factor(brace, kind);
         let q = exact(left);
         let z = mul(f, q);
-        millionths(z)
+        Some(millionths(z))
     }
 }

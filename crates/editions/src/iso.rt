@@ -41,16 +41,14 @@ impl Edition for Iso2007 {
         100000
     }
 
-    fn tell(&self, brace: &BraceRecord, ratios: Ratios, kind: Kind) -> Strength
+    fn tell(&self, brace: &BraceRecord, ratios: Ratios, kind: Kind) -> Option<Strength>
         ensures tells { Tells iso_meaning brace.now ratios kind result }
         ensures fine { Fine result }
     {
-        let Some(left) = iso_chord(ratios, kind) else {
-            return Strength::Spent;
-        };
+        let left = iso_chord(ratios, kind)?;
         let f = iso_factor(brace, kind);
         let q = exact(left);
         let z = mul(f, q);
-        millionths(z)
+        Some(millionths(z))
     }
 }

@@ -8,9 +8,9 @@ returns c =
     let r = c.args.brace.now in
     let q = c.args.ratios in
     let k = c.args.kind in
-    let l = c.in-Some.ensures in
-    let n = strength_near (api_chord_factor r q k) c.in-Some.left c.api_factor-f.ensures c.exact-q.ensures c.mul-z.ensures l in
+    let l = c.in_ok-left.ensures in
+    let n = strength_near (api_chord_factor r q k) c.in_ok-left.left c.api_factor-f.ensures c.exact-q.ensures c.mul-z.ensures l in
     record {
-      tells = bare_tells factor_by_api api_chord_factor r q k c.mul-z.result c.in-Some.left l n c.millionths.result c.millionths.ensures;
-      fine = bare_fine factor_by_api api_chord_factor r q k c.mul-z.result c.in-Some.left l n c.millionths.result c.millionths.ensures;
+      tells = bare_tells factor_by_api api_chord_factor r q k c.mul-z.result c.in_ok-left.left l n c.millionths.result c.millionths.ensures;
+      fine = bare_fine factor_by_api api_chord_factor r q k c.mul-z.result c.in_ok-left.left l n c.millionths.result c.millionths.ensures;
     }
