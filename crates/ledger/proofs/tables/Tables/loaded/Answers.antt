@@ -10,4 +10,4 @@ returns c =
     let b : SFits w64 c.args.brace = search rules in
     let at : At c.args.joint c.args.brace (holding c.args.self.now) c.in_ok-i.i = simp to_z-of_z at c.in_ok-i.ensures in
     let same = c.index-held.ensures ∙ at.found.here _ in
-    (at.found.held, at.stands, ap (λ x. x.figures) (sym same), ap (λ x. x.force) (sym same) ∙ c.in-Some.is)
+    (at.found.held, at.stands, ap (λ x. x.figures) (sym same), ap (λ x. x.force) (sym same) ∙ search rules)
