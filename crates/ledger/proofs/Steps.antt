@@ -1,6 +1,7 @@
 -- What each call's tests come to, over plain variables.
-use Rattle.std.proofs.Common.{◌≡◌, ℕ, true, false, not, leb, [], ◌∷◌, length, get_or, set, ℤ, pos, is_some, IsErrAnd, Some, None, Ok, Err, count_by, Option, Result, sym, refl, ap, ◌∙◌, arith}
+use Rattle.std.proofs.Common.{◌≡◌, ℕ, true, false, not, leb, [], ◌∷◌, length, get_or, set, ℤ, pos, is_some, IsErrAnd, Some, None, Ok, Err, count_by, Option, Result, w64, SFits, to_z, of_z, sym, refl, ap, ◌∙◌, arith}
 use Rattle.std.proofs.lemmas.Bool.{cond-true, cond-false}
+use Rattle.std.proofs.lemmas.Int.{to_z-of_z}
 use Rattle.std.specs.Option.{ok_or}
 use Rattle.records.specs.Limits.{first_figure_outside, chord_limits, brace_fault}
 use Rattle.records.specs.declared.limits.ChordFigures.{ChordFigures}
@@ -68,6 +69,10 @@ stood j b l n m (Ok i) numbers there found = record {
 }
 stood j b l n m (Err e) numbers there (none, same) =
     ap (λ r. standing_at r l) numbers ∙ cond-true _ _ _ there ∙ ap (λ o. ok_or o (because 5 (pos 3))) none ∙ ap (λ x. Err (cause x)) (sym same)
+
+-- The same of numbers that a call passed on as they came.
+pub stood_at : (j b : ℤ) (l : Ledger) (i : ℕ) → SFits w64 j → SFits w64 b → At (to_z w64 (of_z w64 j)) (to_z w64 (of_z w64 b)) l i → At j b l i
+stood_at j b l i p q at = simp to_z-of_z at at
 
 -- A write at that place.
 pub amended : (j b : ℤ) (f : Brace → Brace) (l m : Ledger) (i : ℕ) (y z : Brace) → At j b l i → y ≡ get_or l.braces i y → z ≡ f y → m.joints ≡ l.joints → m.braces ≡ set l.braces i z → Amended j b f l m

@@ -148,6 +148,7 @@ impl Tables {
     }
 
     // The place of a brace that a call speaks of.
+    #[tactic(auto, unfolding(crate::specs::Ledger::standing))]
     fn standing(&self, joint: i64, brace: i64) -> Result<usize, Refusal>
         ensures { Stood joint brace (holding self.now) result }
     {
