@@ -1,5 +1,5 @@
 -- What the calls come to, over plain variables.
-use Rattle.std.proofs.Common.{◌≡◌, ℤ, Some, Ok, Err, Result, IsErrAnd, sym, ap, ◌∙◌, subst}
+use Rattle.std.proofs.Common.{◌≡◌, ℤ, Some, Ok, Err, Result, IsErrAnd, sym, ap, ◌∙◌}
 use Rattle.std.specs.Option.{option_or}
 use Rattle.records.specs.declared.record.BraceRecord.{BraceRecord}
 use Rattle.editions.specs.Meanings.{Meaning}
@@ -11,13 +11,9 @@ use Rattle.ledger.specs.Causes.{cause}
 use Rattle.ledger.specs.declared.refusal.Refusal.{Refusal}
 use Rattle.ledger.specs.declared.refusal.Refusal.TheVariants.{Spent as SpentChord}
 use Rattle.ledger.specs.Ledger.{Ledger, standing, force_cause, note_at, Told, Notes}
-use Rattle.book.specs.declared.book.Book.{Book}
-use Rattle.book.specs.declared.calls.Call.{Call}
-use Rattle.book.specs.declared.calls.Answer.{Answer}
 use Rattle.book.specs.Checks.{Found, Finds, Checks, kind_cause, spent_at, spent_under}
 use Rattle.book.specs.Uses.{first_spent}
 use Rattle.book.proofs.Uses.{none_found, first_found}
-use Rattle.book.specs.Steps.{Moves, Step, ledger_of}
 
 pub check_made : (m : Meaning) (j b : ℤ) (l k : Ledger) (v : Verdict) → Found m j b v l → Notes j b v l k (Ok tt) → Checks m j b l k (Ok v)
 check_made m j b l k v f (free, noted) = (
@@ -39,7 +35,3 @@ check_refused m j b l f n s (Err e) h t first =
     ∙ ap (λ x. kind_cause (first_spent m x n)) t.2
     ∙ ap kind_cause (first_found m f n s.kind first)
     ∙ ap (λ x. Some (cause x)) (sym h)
-
-pub moved_as : {E : Type 0} (before after : Book E) (m : Meaning) (call as_named : Call) (a : Answer) → call ≡ as_named → after.edition ≡ before.edition
-    → Step m (ledger_of before) as_named a (ledger_of after) → Moves before after (λ l k. Step m l call a k)
-moved_as before after m call as_named a e same s = record { edition = same; step = subst (λ c. Step m (ledger_of before) c a (ledger_of after)) (sym e) s }

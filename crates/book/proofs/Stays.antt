@@ -72,7 +72,7 @@ module _ (m : Meaning) (u : Usable m) (l k : Ledger) (s : Standing m l) where
       (all_amend (Stands m) (is_brace n.joint n.number) (brace_with_check v) l.braces
       (λ x e. subst (λ y. Stands m (brace_with_check v y)) (same_brace f.held x _ here e) (checked_stands m u f.held f.force v f.loaded answered)) s)
 
-  pub stays : (c : Call) (a : Answer) → Step m l c a k → Standing m k
+  pub stays : (c : Call) (a : Result Answer Refusal) → Step m l c a k → Standing m k
   stays (Enter j f) a (r, _, d) = does_stay _ _ (λ t. enters t) r d
   stays (Add j b f) a (r, _, d) = does_stay _ _ (λ t. adds t) r d
   stays (Load j b f) a (r, _, d) = does_stay _ _ (λ t. loads t) r d
@@ -80,6 +80,6 @@ module _ (m : Meaning) (u : Usable m) (l k : Ledger) (s : Standing m l) where
   stays (Check j b) a (r, _, d) = does_stay_with _ _ (λ v t. checks v t) r d
   stays FindWorst a (_, e) = subst (Standing m) (sym e) s
 
-pub runs_stay : {m : Meaning} {l k : Ledger} {cs : List Call} {xs : List Answer} → Usable m → Runs m l cs xs k → Standing m l → Standing m k
+pub runs_stay : {m : Meaning} {l k : Ledger} {cs : List Call} {xs : List (Result Answer Refusal)} → Usable m → Runs m l cs xs k → Standing m l → Standing m k
 runs_stay {m} u (end e) s = subst (Standing m) (sym e) s
 runs_stay {m} u (next {l} {k} {n} {c} {a} t r) s = runs_stay u r (stays m u l k s c a t)

@@ -1,6 +1,5 @@
-// What a book is asked, and what it answers.
+// What a book is asked, and what it answers where it doesn't refuse.
 use ledger::entries::Worst;
-use ledger::refusal::Refusal;
 use records::limits::{BraceFigures, ChordFigures};
 use verdicts::forces::ForceFigures;
 use verdicts::verdict::Verdict;
@@ -36,5 +35,4 @@ pub enum Answer {
     Done,
     Checked(Verdict),
     Found(Worst),
-    Refused(Refusal),
 }

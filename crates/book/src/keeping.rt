@@ -5,7 +5,7 @@ ghost use Rattle.ledger.specs.Worsts.{Names};
 ghost use Rattle.std.specs.Prelude.{◌≡◌, Some, MatchResult};
 ghost use Rattle.book.specs.Openings.{open_cause, unusable_cause, Hindered, Opened, Closed};
 ghost use Rattle.book.specs.Checks.{Finds, Checks};
-ghost use Rattle.book.specs.Steps.{ledger_of, Moves, Step, done, checked, found};
+ghost use Rattle.book.specs.Steps.{ledger_of, Moves, Step};
 
 use crate::book::Book;
 use crate::calls::{Answer, Call};
@@ -41,33 +41,6 @@ fn tables_for<E: Edition>(heap: Global, edition: &E) -> Result<Tables, Obstacle>
     usable(edition)?;
     let tables = Tables::new(heap)?;
     Ok(tables)
-}
-
-fn answer_done(r: Result<(), Refusal>) -> Answer
-    ensures { result ≡ done r }
-{
-    match r {
-        Ok(()) => Answer::Done,
-        Err(refusal) => Answer::Refused(refusal),
-    }
-}
-
-fn answer_checked(r: Result<Verdict, Refusal>) -> Answer
-    ensures { result ≡ checked r }
-{
-    match r {
-        Ok(verdict) => Answer::Checked(verdict),
-        Err(refusal) => Answer::Refused(refusal),
-    }
-}
-
-fn answer_found(r: Result<Worst, Refusal>) -> Answer
-    ensures { result ≡ found r }
-{
-    match r {
-        Ok(worst) => Answer::Found(worst),
-        Err(refusal) => Answer::Refused(refusal),
-    }
 }
 
 impl<E: Edition> Book<E> {
@@ -128,24 +101,24 @@ impl<E: Edition> Book<E> {
         self.tables.worst()
     }
 
-    pub fn call(&mut self, call: Call) -> Answer
+    pub fn call(&mut self, call: Call) -> Result<Answer, Refusal>
         ensures { Moves self.old self.new (λ l k. Step (E.meaning self.old.edition) l call result k) }
     {
         match call {
-            Call::Enter { joint, figures } => answer_done(self.enter(joint, figures)),
+            Call::Enter { joint, figures } => self.enter(joint, figures).map(|()| Answer::Done),
             Call::Add {
                 joint,
                 brace,
                 figures,
-            } => answer_done(self.add(joint, brace, figures)),
+            } => self.add(joint, brace, figures).map(|()| Answer::Done),
             Call::Load {
                 joint,
                 brace,
                 figures,
-            } => answer_done(self.load(joint, brace, figures)),
-            Call::Withdraw { joint } => answer_done(self.withdraw(joint)),
-            Call::Check { joint, brace } => answer_checked(self.check(joint, brace)),
-            Call::FindWorst => answer_found(self.worst()),
+            } => self.load(joint, brace, figures).map(|()| Answer::Done),
+            Call::Withdraw { joint } => self.withdraw(joint).map(|()| Answer::Done),
+            Call::Check { joint, brace } => self.check(joint, brace).map(Answer::Checked),
+            Call::FindWorst => self.worst().map(Answer::Found),
         }
     }
 }

@@ -2,9 +2,10 @@
 use crate::book::Book;
 use crate::calls::Answer;
 use editions::edition::Edition;
+use ledger::refusal::Refusal;
 
 #[derive(Drop)]
 pub struct Run<E: Edition> {
     pub book: Book<E>,
-    pub answers: Vec<Answer>,
+    pub answers: Vec<Result<Answer, Refusal>>,
 }

@@ -9,6 +9,7 @@ use crate::calls::{Answer, Call};
 use crate::opening::{Obstacle, Unopened};
 use crate::ran::Run;
 use editions::edition::Edition;
+use ledger::refusal::Refusal;
 use std::alloc::{AllocError, Global};
 
 // The answers to the calls, in their order. Room for all of them is taken before the first call, so that a want of memory leaves the
@@ -17,7 +18,7 @@ pub fn perform<E: Edition>(
     heap: Global,
     book: &mut Book<E>,
     calls: &[Call],
-) -> Result<Vec<Answer>, AllocError>
+) -> Result<Vec<Result<Answer, Refusal>>, AllocError>
     ensures { MatchResult result (λ v. Performed E.meaning book.old calls.now v.items book.new) (λ _. book.new ≡ book.old) }
 {
     let mut answers = Vec::with_capacity(heap, calls.len())?;

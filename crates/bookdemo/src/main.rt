@@ -6,25 +6,15 @@ mod shown;
 
 use crate::script::CALLS;
 use crate::shown::{Asked, Said};
-use anyhow::anyhow;
+use anyhow::Context;
 use book::running::run;
 use layers::pile::Pile;
 
-fn show(rt: &HostRuntime) -> anyhow::Result<()> {
-    let Ok(pile) = Pile::of(2, 100, 0) else {
-        return Err(anyhow!("no pile"));
-    };
-    let Ok(done) = run(rt.alloc(), pile, &CALLS) else {
-        return Err(anyhow!("no memory"));
-    };
+fn main(rt: HostRuntime) -> anyhow::Result<()> {
+    let pile = Pile::of(2, 100, 0).ok().context("no pile")?;
+    let done = run(rt.alloc(), pile, &CALLS).ok().context("no memory")?;
     for (call, answer) in CALLS.iter().zip(done.answers.iter()) {
-        let asked = Asked(*call);
-        let said = Said(*answer);
-        println!(rt; "{asked}: {said}")?;
+        println!(rt; "{}: {}", Asked(*call), Said(*answer))?;
     }
     Ok(())
-}
-
-fn main(rt: HostRuntime) -> anyhow::Result<()> {
-    show(&rt)
 }

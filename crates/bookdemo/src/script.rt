@@ -1,6 +1,6 @@
 // A joint with two braces, as an engineer might work through it.
 use book::calls::Call;
-use records::limits::{BraceFigures, ChordFigures};
+use records::limits::{BraceFigures, ChordFigures, RatioFigures};
 use verdicts::forces::ForceFigures;
 
 const CHORD: ChordFigures = ChordFigures {
@@ -25,58 +25,45 @@ const CROSS: BraceFigures = BraceFigures {
 const MIXED: BraceFigures = BraceFigures {
     brace: 200,
     thickness: 60,
-    fyb: 350,
     sine: 707107,
-    gap: 50,
-    length: 500,
     k: 500,
     y: 300,
     x: 200,
+    ..CROSS
 };
 
-const HALF: ForceFigures = ForceFigures {
-    n: 206080,
+const REST: ForceFigures = ForceFigures {
+    n: 0,
     my: 0,
     mz: 0,
-    p: 0,
-    mi: 0,
-    mo: 0,
+    ratios: RatioFigures { p: 0, mi: 0, mo: 0 },
 };
 
-const PULL: ForceFigures = ForceFigures {
-    n: 420000,
-    my: 0,
-    mz: 0,
-    p: 0,
-    mi: 0,
-    mo: 0,
-};
+const HALF: ForceFigures = ForceFigures { n: 206080, ..REST };
+
+const PULL: ForceFigures = ForceFigures { n: 420000, ..REST };
 
 const PUSH: ForceFigures = ForceFigures {
     n: -150000,
     my: 20000,
     mz: -5000,
-    p: -2000,
-    mi: 1500,
-    mo: 0,
+    ratios: RatioFigures {
+        p: -2000,
+        mi: 1500,
+        mo: 0,
+    },
 };
 
-const TOO_MUCH: ForceFigures = ForceFigures {
-    n: 0,
-    my: 0,
-    mz: 900000,
-    p: 0,
-    mi: 0,
-    mo: 0,
-};
+const TOO_MUCH: ForceFigures = ForceFigures { mz: 900000, ..REST };
 
 const SPENT: ForceFigures = ForceFigures {
     n: 1000,
-    my: 0,
-    mz: 0,
-    p: -10000,
-    mi: 0,
-    mo: 10000,
+    ratios: RatioFigures {
+        p: -10000,
+        mi: 0,
+        mo: 10000,
+    },
+    ..REST
 };
 
 pub const CALLS: [Call; 19] = [

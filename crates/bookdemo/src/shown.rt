@@ -1,5 +1,6 @@
 // Calls and answers as text.
 use book::calls::{Answer, Call};
+use ledger::refusal::Refusal;
 use std::fmt;
 use verdicts::verdict::{Part, Verdict};
 
@@ -9,36 +10,37 @@ pub struct Asked(pub Call);
 impl fmt::Display for Asked {
     fn fmt<W: fmt::Write>(&self, f: &mut fmt::Formatter<W>) -> fmt::Result {
         match self.0 {
-            Call::Enter { joint, figures } => {
-                let d = figures.diameter;
-                let t = figures.wall;
-                write!(f, "enter joint {joint}, D {d}, T {t}")
-            }
+            Call::Enter { joint, figures } => write!(
+                f,
+                "enter joint {joint}, D {}, T {}",
+                figures.diameter, figures.wall
+            ),
             Call::Add {
                 joint,
                 brace,
                 figures,
-            } => {
-                let d = figures.brace;
-                write!(f, "add brace {brace} at joint {joint}, d {d}")
-            }
+            } => write!(f, "add brace {brace} at joint {joint}, d {}", figures.brace),
             Call::Load {
                 joint,
                 brace,
                 figures,
-            } => {
-                let n = figures.n;
-                let my = figures.my;
-                let mz = figures.mz;
-                write!(
-                    f,
-                    "load brace {brace} at joint {joint}, N {n}, My {my}, Mz {mz}"
-                )
-            }
+            } => write!(
+                f,
+                "load brace {brace} at joint {joint}, N {}, My {}, Mz {}",
+                figures.n, figures.my, figures.mz
+            ),
             Call::Withdraw { joint } => write!(f, "withdraw joint {joint}"),
             Call::Check { joint, brace } => write!(f, "check brace {brace} at joint {joint}"),
             Call::FindWorst => write!(f, "worst"),
         }
+    }
+}
+
+fn cause(part: Part) -> &'static str {
+    match part {
+        Part::AxialForce => "axial force",
+        Part::InPlaneMoment => "in-plane moment",
+        Part::OutOfPlaneMoment => "out-of-plane moment",
     }
 }
 
@@ -47,51 +49,37 @@ struct Told(Verdict);
 
 impl fmt::Display for Told {
     fn fmt<W: fmt::Write>(&self, f: &mut fmt::Formatter<W>) -> fmt::Result {
-        match self.0 {
-            Verdict::Pass(ends) => {
-                let low = ends.low;
-                let high = ends.high;
-                write!(f, "PASS, {low} to {high} millionths")
-            }
-            Verdict::Fail(ends) => {
-                let low = ends.low;
-                let high = ends.high;
-                write!(f, "FAIL, {low} to {high} millionths")
-            }
-            Verdict::Near(ends) => {
-                let low = ends.low;
-                let high = ends.high;
-                write!(f, "NEAR, {low} to {high} millionths")
-            }
-            Verdict::Far(Part::AxialForce) => write!(f, "FAR, by the axial force"),
-            Verdict::Far(Part::InPlaneMoment) => write!(f, "FAR, by the in-plane moment"),
-            Verdict::Far(Part::OutOfPlaneMoment) => write!(f, "FAR, by the out-of-plane moment"),
-        }
+        let (word, ends) = match self.0 {
+            Verdict::Pass(ends) => ("PASS", ends),
+            Verdict::Fail(ends) => ("FAIL", ends),
+            Verdict::Near(ends) => ("NEAR", ends),
+            Verdict::Far(part) => return write!(f, "FAR, by the {}", cause(part)),
+        };
+        write!(f, "{word}, {} to {} millionths", ends.low, ends.high)
     }
 }
 
 #[derive(Clone, Copy)]
-pub struct Said(pub Answer);
+pub struct Said(pub Result<Answer, Refusal>);
 
 impl fmt::Display for Said {
     fn fmt<W: fmt::Write>(&self, f: &mut fmt::Formatter<W>) -> fmt::Result {
         match self.0 {
-            Answer::Done => write!(f, "done"),
-            Answer::Checked(verdict) => {
-                let told = Told(verdict);
-                write!(f, "{told}")
-            }
-            Answer::Found(worst) => {
-                let joint = worst.joint;
-                let brace = worst.brace;
-                let told = Told(worst.verdict);
-                write!(f, "joint {joint}, brace {brace}, {told}")
-            }
-            Answer::Refused(refusal) => {
-                let number = refusal.number();
-                let value = refusal.value();
-                write!(f, "refused by {number} with {value}")
-            }
+            Ok(Answer::Done) => write!(f, "done"),
+            Ok(Answer::Checked(verdict)) => write!(f, "{}", Told(verdict)),
+            Ok(Answer::Found(worst)) => write!(
+                f,
+                "joint {}, brace {}, {}",
+                worst.joint,
+                worst.brace,
+                Told(worst.verdict)
+            ),
+            Err(refusal) => write!(
+                f,
+                "refused by {} with {}",
+                refusal.number(),
+                refusal.value()
+            ),
         }
     }
 }

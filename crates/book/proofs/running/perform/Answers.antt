@@ -11,8 +11,3 @@ loop-call-preserved g c =
     let cs = c.args.calls.now in
     let i = c.loop-call.call-index in
     (omega arith, omega arith, omega arith, performed_more g.E.Edition.meaning c.args.book.now c.loop-call.book c.call.new.self (take i cs) _ _ _ _ _ c.loop-call.invariant.3 c.call.ensures (take_more cs i _ c.loop-call-test.true) c.push_reserved.ensures.items)
-
-pub returns : goal.returns
-returns g c =
-    let e : take c.loop-call.call-index c.args.calls.now ≡ c.args.calls.now = take_all _ _ c.loop-call-test.false in
-    rw e at c.loop-call.invariant.3
