@@ -1,16 +1,13 @@
 -- A deck, line by line.
-use Rattle.std.proofs.Common.{◌≡◌, ℕ, ◌+◌, ◌<◌, List, [], ◌∷◌, ◌++◌, length, IfOk, Ok, Err, string_bytes, codes, Option, Result, String, sym, refl, ap, ◌∙◌, subst, append_assoc, append-nil, arith}
+use Rattle.std.proofs.Common.{◌≡◌, ℕ, ◌+◌, List, [], ◌∷◌, ◌++◌, length, Option, Result, sym, refl, ap, ◌∙◌, subst, append_assoc, append-nil, arith}
 use Rattle.std.proofs.lemmas.List.{length_push}
-use Rattle.std.specs.declared.alloc.Global.{Global}
-use Rattle.std.specs.declared.alloc.AllocError.{AllocError}
-use Rattle.layers.proofs.Laws.{pile_usable}
 use Rattle.cards.specs.Pieces.{lines_of}
 use Rattle.decks.specs.declared.fault.Fault.{Fault}
 use Rattle.decks.specs.declared.fault.CheckLine.{CheckLine}
 use Rattle.decks.specs.Desks.{Desk, closed}
 use Rattle.decks.specs.Sessions.{Takes}
 use Rattle.decks.specs.Outputs.{answer_text}
-use Rattle.decks.specs.Responses.{Reads, end, next, Ends, Deck, Responds}
+use Rattle.decks.specs.Responses.{Reads, end, next, Ends, Deck}
 use Rattle.decks.proofs.Binds.{reads_bind}
 
 -- one line more
@@ -44,7 +41,3 @@ deck_whole input rest text last out count d so none ends whole =
     let all : so.before ≡ lines_of input = sym (append-nil so.before) ∙ ap (λ x. so.before ++ lines_of x) (sym none) ∙ so.split in
     let reads = subst (λ ls. Reads closed 1 ls text d) all so.reads in
     record { desk = d; text = text; last = last; reads = reads; ends = ends; whole = whole; binding = reads_bind reads tt }
-
-pub too_much : (input : List ℕ) (r : Result (String Global) AllocError) → 32768 < length input → IfOk r (λ t. string_bytes t ≡ codes "REFUSED,0,17,0\n") → IfOk r (λ s. Responds input (string_bytes s))
-too_much input (Ok s) h is = record { deck = λ few. absurd (omega arith); much = λ _. is; usable = pile_usable }
-too_much input (Err e) h is = tt

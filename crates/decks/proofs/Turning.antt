@@ -1,5 +1,5 @@
 -- What a card comes to on a desk.
-use Rattle.std.proofs.Common.{◌≡◌, ℤ, IsErrAnd, Some, None, Ok, Err, Option, Result, sym, refl, ap, ◌∙◌}
+use Rattle.std.proofs.Common.{◌≡◌, ℤ, IsErrAnd, None, Ok, Err, Option, Result, sym, refl, ap, ◌∙◌}
 use Rattle.records.specs.declared.limits.BraceFigures.{BraceFigures}
 use Rattle.layers.specs.declared.pile.Pile.{Pile}
 use Rattle.ledger.specs.Ledger.{Adds}

@@ -27,18 +27,13 @@ impl Session {
     fn perform(&mut self, card: Card) -> Result<Option<CheckLine>, Stop>
         ensures { Stopping result (λ q. Performs (desk_of self.old) card q (desk_of self.new)) }
     {
-        match &mut self.book {
-            Some(book) => {
-                let told = turn(book, card)?;
-                Ok(told)
-            }
-            None => {
-                let Card::Pile(numbers) = card else {
-                    return Err(Stop::from(CardFault::NoWord));
-                };
+        match (&mut self.book, card) {
+            (Some(book), card) => Ok(turn(book, card)?),
+            (None, Card::Pile(numbers)) => {
                 self.book = Some(opened(self.heap, numbers)?);
                 Ok(None)
             }
+            (None, _) => Err(CardFault::NoWord.into()),
         }
     }
 
@@ -64,7 +59,7 @@ fn turn(book: &mut Book<Pile>, card: Card) -> Result<Option<CheckLine>, Fault>
     ensures { Performs (desk_with (Some book.old)) card result (desk_with (Some book.new)) }
 {
     match card {
-        Card::Pile(_) => return Err(Fault::Card(CardFault::NoWord)),
+        Card::Pile(_) => return Err(CardFault::NoWord.into()),
         Card::Joint { joint, figures } => book.enter(joint, figures)?,
         Card::Brace {
             joint,

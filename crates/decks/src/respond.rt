@@ -25,11 +25,11 @@ impl Session {
             Ok(None) => Ok(String::new(self.heap)),
             Ok(Some(check)) => check.to_string(self.heap),
             Err(Stop::Refused(fault)) => {
-                let refused = LineFault {
+                LineFault {
                     line: line.number,
                     fault,
-                };
-                refused.to_string(self.heap)
+                }
+                .to_string(self.heap)
             }
             Err(Stop::Memory) => Err(AllocError),
         }
