@@ -5,4 +5,5 @@ pub mod Lines
 pub mod Fields
 pub mod Words
 pub mod Cards
+pub mod Faults
 pub mod CardTexts

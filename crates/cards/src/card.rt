@@ -1,6 +1,7 @@
 // The cards, and why a line is none.
 ghost use Rattle.std.specs.Prelude.{◌≡◌};
 ghost use Rattle.cards.specs.declared.card.CardFault.TheVariants.{NotNumber};
+ghost use Rattle.cards.specs.Faults.{card_fault_number, card_fault_value};
 
 use records::limits::{BraceFigures, ChordFigures};
 use verdicts::forces::ForceFigures;
@@ -48,6 +49,32 @@ pub enum CardFault {
     NoWord,
     WrongCount(u8),
     NotNumber(NumberFault),
+}
+
+impl CardFault {
+    // The number of the refusal.
+    pub fn number(self) -> u8
+        ensures { result ≡ card_fault_number self }
+    {
+        match self {
+            CardFault::TooLong => 17,
+            CardFault::NoWord => 14,
+            CardFault::WrongCount(_) => 15,
+            CardFault::NotNumber(_) => 16,
+        }
+    }
+
+    // What is told beside the number; 0 where there is nothing.
+    pub fn value(self) -> i64
+        ensures { result ≡ card_fault_value self }
+    {
+        match self {
+            CardFault::TooLong => 0,
+            CardFault::NoWord => 0,
+            CardFault::WrongCount(count) => i64::from(count),
+            CardFault::NotNumber(fault) => i64::from(fault.field),
+        }
+    }
 }
 
 impl From<NumberFault> for CardFault {

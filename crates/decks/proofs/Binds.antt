@@ -1,5 +1,5 @@
 -- Every check that stands on a desk binds, whatever lines came.
-use Rattle.std.proofs.Common.{◌≡◌, ℕ, List, Ok, Err, Result, sym, refl, subst}
+use Rattle.std.proofs.Common.{◌≡◌, ℕ, List, Ok, Err, Option, Result, sym, refl, subst}
 use Rattle.layers.specs.declared.pile.Pile.{Pile}
 use Rattle.layers.specs.PileMeanings.{pile_meaning}
 use Rattle.layers.proofs.Laws.{pile_usable}
@@ -15,7 +15,7 @@ use Rattle.cards.specs.declared.card.Card.TheVariants as card
 use Rattle.cards.specs.declared.card.CardFault.{CardFault}
 use Rattle.cards.specs.Cards.{card_of}
 use Rattle.decks.specs.declared.fault.Fault.{Fault}
-use Rattle.decks.specs.declared.fault.Told.{Told}
+use Rattle.decks.specs.declared.fault.CheckLine.{CheckLine}
 use Rattle.decks.specs.Desks.{Desk, closed, kept_by}
 use Rattle.decks.specs.Sessions.{is_desk_open, Performs, on_card}
 use Rattle.decks.specs.Responses.{Reads, end, next, Binding}
@@ -26,7 +26,7 @@ same d e is b = subst Binding (sym is) b
 stepped : (p : Pile) (l k : Ledger) (e : Desk) → e ≡ kept_by p k → Standing (pile_meaning p) l → (c : Call) (a : Answer) → Step (pile_meaning p) l c a k → Binding e
 stepped p l k e is s c a t = same (kept_by p k) e is (stays (pile_meaning p) (pile_usable p) l k s c a t)
 
-performed : (d : Desk) (c : Card) (r : Result Told Fault) (e : Desk) → Performs d c r e → Binding d → Binding e
+performed : (d : Desk) (c : Card) (r : Result (Option CheckLine) Fault) (e : Desk) → Performs d c r e → Binding d → Binding e
 performed closed (card.Pile n) (Ok x) e (_, _, p, _, is) b = same (kept_by p _) e is tt
 performed closed (card.Pile n) (Err f) e (_, _, _, is) b = same closed e is b
 performed closed (card.Joint j f) r e (_, is) b = same closed e is b
@@ -39,7 +39,7 @@ performed (kept_by p l) (card.Brace j n f) r e (k, q, s, _, is) b = stepped p l 
 performed (kept_by p l) (card.Force j n f) r e (k, q, s, _, is) b = stepped p l k e is b (call.Load j n f) (done q) (q, refl, s)
 performed (kept_by p l) (card.Check j n) r e (k, q, s, _, is) b = stepped p l k e is b (call.Check j n) (checked q) (q, refl, s)
 
-taken : (d : Desk) (o : Result Card CardFault) (r : Result Told Fault) (e : Desk) → on_card d o r e → Binding d → Binding e
+taken : (d : Desk) (o : Result Card CardFault) (r : Result (Option CheckLine) Fault) (e : Desk) → on_card d o r e → Binding d → Binding e
 taken d (Ok c) r e t b = performed d c r e t b
 taken d (Err f) r e (_, is) b = same d e is b
 

@@ -1,20 +1,17 @@
 -- A deck, line by line.
-use Rattle.std.proofs.Common.{◌≡◌, ℕ, ◌+◌, ◌<◌, List, [], ◌∷◌, ◌++◌, length, IfOk, Ok, Err, string_bytes, codes, Result, String, sym, refl, ap, ◌∙◌, subst, append_assoc, append-nil, arith}
+use Rattle.std.proofs.Common.{◌≡◌, ℕ, ◌+◌, List, [], ◌∷◌, ◌++◌, length, Option, Result, sym, refl, ap, ◌∙◌, subst, append_assoc, append-nil, arith}
 use Rattle.std.proofs.lemmas.List.{length_push}
-use Rattle.std.specs.declared.alloc.Global.{Global}
-use Rattle.std.specs.declared.alloc.AllocError.{AllocError}
-use Rattle.layers.proofs.Laws.{pile_usable}
 use Rattle.cards.specs.Pieces.{lines_of}
 use Rattle.decks.specs.declared.fault.Fault.{Fault}
-use Rattle.decks.specs.declared.fault.Told.{Told}
+use Rattle.decks.specs.declared.fault.CheckLine.{CheckLine}
 use Rattle.decks.specs.Desks.{Desk, closed}
 use Rattle.decks.specs.Sessions.{Takes}
 use Rattle.decks.specs.Outputs.{answer_text}
-use Rattle.decks.specs.Responses.{Reads, end, next, Ends, Deck, Responds}
+use Rattle.decks.specs.Responses.{Reads, end, next, Ends, Deck}
 use Rattle.decks.proofs.Binds.{reads_bind}
 
 -- one line more
-reads_more : {d e f : Desk} {n : ℕ} {ls : List (List ℕ)} {t : List ℕ} (l : List ℕ) (r : Result Told Fault) (m : ℕ) → m ≡ n + length ls → Reads d n ls t e → Takes e l r f → Reads d n (ls ++ l ∷ []) (t ++ answer_text m r) f
+reads_more : {d e f : Desk} {n : ℕ} {ls : List (List ℕ)} {t : List ℕ} (l : List ℕ) (r : Result (Option CheckLine) Fault) (m : ℕ) → m ≡ n + length ls → Reads d n ls t e → Takes e l r f → Reads d n (ls ++ l ∷ []) (t ++ answer_text m r) f
 reads_more {f = f} l r m at (end {d} {e} {n} is) t =
     next r (subst (λ x. Takes x l r f) is t) (ap (λ k. answer_text k r) (omega arith) ∙ sym (append-nil (answer_text n r))) (end refl)
 reads_more l r m at (next {n = n} {rest = rest} q u w more) t =
@@ -30,7 +27,7 @@ pub record Sofar (input rest text : List ℕ) (count : ℕ) (d : Desk) : Type 0 
 pub sofar_none : (input text : List ℕ) (count : ℕ) (d : Desk) → text ≡ [] → count ≡ 0 → d ≡ closed → Sofar input input text count d
 sofar_none input text count d t c is = record { before = []; split = refl; counted = c; reads = rw t (end is) }
 
-pub sofar_more : (input rest after text more : List ℕ) (count next_count number : ℕ) (d e : Desk) (l : List ℕ) (r : Result Told Fault) → Sofar input rest text count d
+pub sofar_more : (input rest after text more : List ℕ) (count next_count number : ℕ) (d e : Desk) (l : List ℕ) (r : Result (Option CheckLine) Fault) → Sofar input rest text count d
     → lines_of rest ≡ l ∷ lines_of after → number ≡ count + 1 → next_count ≡ count + 1 → Takes d l r e → more ≡ text ++ answer_text number r → Sofar input after more next_count e
 sofar_more input rest after text more count next_count number d e l r so first n c t w = record {
   before = so.before ++ l ∷ [];
@@ -44,7 +41,3 @@ deck_whole input rest text last out count d so none ends whole =
     let all : so.before ≡ lines_of input = sym (append-nil so.before) ∙ ap (λ x. so.before ++ lines_of x) (sym none) ∙ so.split in
     let reads = subst (λ ls. Reads closed 1 ls text d) all so.reads in
     record { desk = d; text = text; last = last; reads = reads; ends = ends; whole = whole; binding = reads_bind reads tt }
-
-pub too_much : (input : List ℕ) (r : Result (String Global) AllocError) → 32768 < length input → IfOk r (λ t. string_bytes t ≡ codes "REFUSED,0,17,0\n") → IfOk r (λ s. Responds input (string_bytes s))
-too_much input (Ok s) h is = record { deck = λ few. absurd (omega arith); much = λ _. is; usable = pile_usable }
-too_much input (Err e) h is = tt

@@ -3,12 +3,13 @@
 --     comma x rest         x, a comma and rest
 --     word_of v            PASS, FAIL, NEAR or FAR
 --     refused_text n c     REFUSED, the line n, and the number and the value of the cause c
---     told_text t          RESULT, the joint, the brace and the word of a check's verdict; nothing for any other accepted line
+--     check_text c         RESULT, the joint, the brace and the word of the verdict of the check's line c
+--     told_text t          what an accepted line prints: a check's line, and nothing for any other card
 --     answer_text n r      what the line n prints
 --     worst_text r         WORST, the joint and the brace of the worst; two zeros where no check stands
 --
 -- Assumes nothing.
-use Rattle.std.specs.Prelude.{ℕ, List, [], ◌++◌, Ok, Err, codes, decimal, Result}
+use Rattle.std.specs.Prelude.{ℕ, List, [], ◌++◌, Some, None, Ok, Err, codes, decimal, Option, Result}
 use Rattle.std.specs.Fmt.{signed_decimal}
 use Rattle.verdicts.specs.declared.verdict.Verdict.{Verdict}
 use Rattle.verdicts.specs.declared.verdict.Verdict.TheVariants.{Pass, Fail, Near, Far}
@@ -17,8 +18,7 @@ use Rattle.ledger.specs.declared.entries.Worst.{Worst}
 use Rattle.ledger.specs.declared.refusal.Refusal.{Refusal}
 use Rattle.decks.specs.declared.fault.Fault.{Fault}
 use Rattle.decks.specs.declared.fault.LineFault.{LineFault}
-use Rattle.decks.specs.declared.fault.Told.{Told}
-use Rattle.decks.specs.declared.fault.Told.TheVariants.{Nothing, Verdict as Checked}
+use Rattle.decks.specs.declared.fault.CheckLine.{CheckLine}
 use Rattle.decks.specs.Faults.{fault_cause}
 
 abbrev pub comma : List ℕ → List ℕ → List ℕ
@@ -33,14 +33,17 @@ word_of (Far p) = codes "FAR"
 abbrev pub refused_text : ℕ → Cause → List ℕ
 refused_text n c = codes "REFUSED," ++ comma (decimal n) (comma (decimal c.number) (signed_decimal c.value ++ codes "\n"))
 
-abbrev pub told_text : Told → List ℕ
-told_text Nothing = []
-told_text (Checked j b v) = codes "RESULT," ++ comma (signed_decimal j) (comma (signed_decimal b) (word_of v ++ codes "\n"))
+abbrev pub check_text : CheckLine → List ℕ
+check_text c = codes "RESULT," ++ comma (signed_decimal c.joint) (comma (signed_decimal c.brace) (word_of c.verdict ++ codes "\n"))
+
+abbrev pub told_text : Option CheckLine → List ℕ
+told_text None = []
+told_text (Some c) = check_text c
 
 abbrev pub fault_text : LineFault → List ℕ
 fault_text f = refused_text f.line (fault_cause f.fault)
 
-abbrev pub answer_text : ℕ → Result Told Fault → List ℕ
+abbrev pub answer_text : ℕ → Result (Option CheckLine) Fault → List ℕ
 answer_text n (Ok t) = told_text t
 answer_text n (Err f) = refused_text n (fault_cause f)
 

@@ -8,7 +8,7 @@
 --                         way binds the reckoners too
 --
 -- Assumes nothing.
-use Rattle.std.specs.Prelude.{◌≡◌, ℕ, ◌+◌, ◌<◌, ◌≤◌, List, [], ◌∷◌, ◌++◌, length, codes, Result}
+use Rattle.std.specs.Prelude.{◌≡◌, ℕ, ◌+◌, ◌<◌, ◌≤◌, List, [], ◌∷◌, ◌++◌, length, codes, Option, Result}
 use Rattle.editions.specs.Meanings.{Usable}
 use Rattle.layers.specs.declared.pile.Pile.{Pile}
 use Rattle.layers.specs.PileMeanings.{pile_meaning}
@@ -18,14 +18,14 @@ use Rattle.ledger.specs.declared.refusal.Refusal.{Refusal}
 use Rattle.book.specs.Standing.{Standing}
 use Rattle.cards.specs.Pieces.{lines_of}
 use Rattle.decks.specs.declared.fault.Fault.{Fault}
-use Rattle.decks.specs.declared.fault.Told.{Told}
+use Rattle.decks.specs.declared.fault.CheckLine.{CheckLine}
 use Rattle.decks.specs.Desks.{Desk, closed, kept_by}
 use Rattle.decks.specs.Sessions.{Takes}
 use Rattle.decks.specs.Outputs.{answer_text, none_worst, worst_text}
 
 pub data Reads : Desk → ℕ → List (List ℕ) → List ℕ → Desk → Type 0 where
   end : {d e : Desk} {n : ℕ} → e ≡ d → Reads d n [] [] e
-  next : {d e f : Desk} {n : ℕ} {l text rest : List ℕ} {ls : List (List ℕ)} (r : Result Told Fault) → Takes d l r e → text ≡ answer_text n r ++ rest → Reads e (n + 1) ls rest f
+  next : {d e f : Desk} {n : ℕ} {l text rest : List ℕ} {ls : List (List ℕ)} (r : Result (Option CheckLine) Fault) → Takes d l r e → text ≡ answer_text n r ++ rest → Reads e (n + 1) ls rest f
       → Reads d n (l ∷ ls) text f
 
 abbrev pub Ends : Desk → List ℕ → Type 0

@@ -2,7 +2,7 @@
 ghost use Rattle.std.specs.Prelude.{◌≡◌};
 ghost use Rattle.decks.specs.declared.fault.Fault.TheVariants.{Card as OfCard, Pile as OfPile, Book as OfBook};
 ghost use Rattle.decks.specs.declared.fault.Stop.TheVariants.{Refused};
-ghost use Rattle.decks.specs.Faults.{card_cause, fault_cause};
+ghost use Rattle.decks.specs.Faults.{fault_cause};
 
 use cards::card::CardFault;
 use layers::pile_fault::PileFault;
@@ -40,34 +40,12 @@ impl From<Refusal> for Fault {
     }
 }
 
-fn card_number(fault: CardFault) -> u8
-    ensures { result ≡ (card_cause fault).number }
-{
-    match fault {
-        CardFault::TooLong => 17,
-        CardFault::NoWord => 14,
-        CardFault::WrongCount(_) => 15,
-        CardFault::NotNumber(_) => 16,
-    }
-}
-
-fn card_value(fault: CardFault) -> i64
-    ensures { result ≡ (card_cause fault).value }
-{
-    match fault {
-        CardFault::TooLong => 0,
-        CardFault::NoWord => 0,
-        CardFault::WrongCount(count) => count as i64,
-        CardFault::NotNumber(number) => number.field as i64,
-    }
-}
-
 impl Fault {
     pub fn number(self) -> u8
         ensures { result ≡ (fault_cause self).number }
     {
         match self {
-            Fault::Card(fault) => card_number(fault),
+            Fault::Card(fault) => fault.number(),
             Fault::Pile(fault) => fault.number(),
             Fault::Book(refusal) => refusal.number(),
         }
@@ -78,22 +56,19 @@ impl Fault {
         ensures { result ≡ (fault_cause self).value }
     {
         match self {
-            Fault::Card(fault) => card_value(fault),
-            Fault::Pile(fault) => fault.field() as i64,
+            Fault::Card(fault) => fault.value(),
+            Fault::Pile(fault) => i64::from(fault.field()),
             Fault::Book(refusal) => refusal.value(),
         }
     }
 }
 
-// What an accepted line prints: a check's verdict, and else nothing.
+// What a check says: the joint and the brace that it names, and the verdict. An accepted line of any other card says nothing.
 #[derive(Clone, Copy)]
-pub enum Told {
-    Nothing,
-    Verdict {
-        joint: i64,
-        brace: i64,
-        verdict: Verdict,
-    },
+pub struct CheckLine {
+    pub joint: i64,
+    pub brace: i64,
+    pub verdict: Verdict,
 }
 
 // What keeps a line from being accepted: a fault, which is told, or a want of memory, which ends the session.
@@ -116,6 +91,14 @@ impl From<CardFault> for Stop {
 
     fn from(fault: CardFault) -> Stop {
         Stop::Refused(Fault::Card(fault))
+    }
+}
+
+impl From<PileFault> for Stop {
+    ghost from_gives = { λ f r. r ≡ Refused (OfPile f) };
+
+    fn from(fault: PileFault) -> Stop {
+        Stop::Refused(Fault::Pile(fault))
     }
 }
 

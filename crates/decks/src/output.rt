@@ -1,8 +1,8 @@
 // What is printed.
 ghost use Rattle.std.specs.Prelude.{◌≡◌, IfOk, Some, string_bytes};
-ghost use Rattle.decks.specs.Outputs.{word_of, told_text, fault_text, worst_text};
+ghost use Rattle.decks.specs.Outputs.{word_of, check_text, fault_text, worst_text};
 
-use crate::fault::{LineFault, Told};
+use crate::fault::{CheckLine, LineFault};
 use ledger::entries::Worst;
 use ledger::refusal::Refusal;
 use std::alloc::{AllocError, Global};
@@ -37,21 +37,14 @@ impl fmt::Display for LineFault {
     }
 }
 
-impl fmt::Display for Told {
-    ghost output = { λ t. Some (told_text t) };
+impl fmt::Display for CheckLine {
+    ghost output = { λ c. Some (check_text c) };
 
     fn fmt<W: fmt::Write>(&self, f: &mut fmt::Formatter<W>) -> fmt::Result {
-        match *self {
-            Told::Nothing => write!(f, ""),
-            Told::Verdict {
-                joint,
-                brace,
-                verdict,
-            } => {
-                let word = Word(verdict);
-                write!(f, "RESULT,{joint},{brace},{word}\n")
-            }
-        }
+        let joint = self.joint;
+        let brace = self.brace;
+        let word = Word(self.verdict);
+        write!(f, "RESULT,{joint},{brace},{word}\n")
     }
 }
 

@@ -1,7 +1,7 @@
 // Answers a whole input.
-ghost use Rattle.std.specs.Prelude.{◌≡◌, IfOk, string_bytes, Result as Answer};
+ghost use Rattle.std.specs.Prelude.{◌≡◌, IfOk, string_bytes, Option as Perhaps, Result as Answer};
 ghost use Rattle.decks.specs.declared.fault.Fault.{Fault as LinesFault};
-ghost use Rattle.decks.specs.declared.fault.Told.{Told as Said};
+ghost use Rattle.decks.specs.declared.fault.CheckLine.{CheckLine as ACheckLine};
 ghost use Rattle.decks.specs.Sessions.{desk_of, Takes};
 ghost use Rattle.decks.specs.Outputs.{answer_text};
 ghost use Rattle.decks.specs.Responses.{Ends, Responds};
@@ -19,16 +19,17 @@ pub const TOO_LONG: &str = "REFUSED,0,17,0\n";
 impl Session {
     // What a line prints.
     fn answer(&mut self, line: Line<'_>) -> Result<String, AllocError>
-        ensures { IfOk result (λ s. (q : Answer Said LinesFault) × Takes (desk_of self.old) line.entry.bytes.now q (desk_of self.new) × (string_bytes s ≡ answer_text line.entry.number q)) }
+        ensures { IfOk result (λ s. (q : Answer (Perhaps ACheckLine) LinesFault) × Takes (desk_of self.old) line.entry.bytes.now q (desk_of self.new) × (string_bytes s ≡ answer_text line.entry.number q)) }
     {
         match self.take(line.bytes) {
-            Ok(told) => told.to_string(self.heap),
+            Ok(None) => Ok(String::new(self.heap)),
+            Ok(Some(check)) => check.to_string(self.heap),
             Err(Stop::Refused(fault)) => {
-                let refused = LineFault {
+                LineFault {
                     line: line.number,
                     fault,
-                };
-                refused.to_string(self.heap)
+                }
+                .to_string(self.heap)
             }
             Err(Stop::Memory) => Err(AllocError),
         }

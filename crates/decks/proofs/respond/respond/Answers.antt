@@ -2,11 +2,8 @@ use Rattle.std.proofs.Common.{◌++◌, string_bytes, sym, ap, ◌∙◌, subst,
 use Rattle.layers.proofs.Laws.{pile_usable}
 use Rattle.cards.specs.Lines.{left, seen}
 use Rattle.decks.specs.Sessions.{desk_of}
-use Rattle.decks.proofs.Following.{Sofar, sofar_none, sofar_more, deck_whole, too_much}
+use Rattle.decks.proofs.Following.{Sofar, sofar_none, sofar_more, deck_whole}
 use Rattle.decks.proofs.respond.respond.Goals as goal
-
-pub returns-then-input-gt32768 : goal.returns-then-input-gt32768
-returns-then-input-gt32768 c = too_much c.args.input.now _ c.if-input-gt32768.true c.from_str.ensures.ok
 
 pub loop-line-init : goal.loop-line-init
 loop-line-init c =
