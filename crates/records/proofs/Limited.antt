@@ -1,5 +1,5 @@
 -- What follows where no figure is outside its limits.
-use Rattle.std.proofs.Common.{◌≡◌, ℕ, suc, ◌+◌, ◌*◌, ◌^◌, ◌<◌, ◌≤◌, Bool, true, false, cond, ◌||◌, T, List, [], ◌∷◌, ℤ, pos, negsuc, ◌+ℤ◌, ◌*ℤ◌, nat_abs, ◌≤ℤ◌, Some, None, Option, refl, mul-le-mul_right, arith, w64, Fits, SFits, to_z, of_z}
+use Rattle.std.proofs.Common.{◌≡◌, ℕ, suc, ◌+◌, ◌*◌, ◌^◌, ◌<◌, ◌≤◌, Bool, true, false, cond, ◌||◌, T, List, [], ◌∷◌, ◌++◌, ℤ, pos, negsuc, ◌+ℤ◌, ◌*ℤ◌, nat_abs, ◌≤ℤ◌, Some, None, Option, refl, mul-le-mul_right, arith, w64, Fits, SFits, to_z, of_z}
 use lib.Signed.{lt_z, non_neg}
 use mir.Syntax.{w128}
 use borrow.Author.Differences.{ints, lt-false, at_most_in}
@@ -9,7 +9,8 @@ use Rattle.records.specs.declared.limits.Limit.{Limit}
 use Rattle.records.specs.Signs.{size, apart, lap}
 use Rattle.records.specs.declared.limits.Misfit.{Misfit}
 use Rattle.records.specs.declared.limits.Misfit.TheVariants.{SharesSum}
-use Rattle.records.specs.Limits.{first_figure_outside, sum_fault}
+use Rattle.std.specs.Option.{option_or}
+use Rattle.records.specs.Limits.{outside, first_figure_outside, sum_fault}
 
 abbrev pub Holding : List Limit → Type 0
 Holding [] = Unit {0}
@@ -25,6 +26,16 @@ held (l ∷ ls) e = go (lt_z l.value l.low) (lt_z l.high l.value) refl refl e (h
     go false true p q r k = let z : ◌≡◌ {A = ℕ} 0 1 = cc in absurd (omega arith)
     go true false p q r k = let z : ◌≡◌ {A = ℕ} 0 1 = cc in absurd (omega arith)
     go true true p q r k = let z : ◌≡◌ {A = ℕ} 0 1 = cc in absurd (omega arith)
+
+-- rows before others: theirs is the first figure outside, and where they name none, that of the others
+pub first_of_both : (ls ms : List Limit) → first_figure_outside (ls ++ ms) ≡ option_or (first_figure_outside ls) (first_figure_outside ms)
+unfolding first_figure_outside
+first_of_both [] ms = refl
+first_of_both (l ∷ ls) ms = go (outside l) (first_of_both ls ms)
+  where
+    go : (b : Bool) → first_figure_outside (ls ++ ms) ≡ option_or (first_figure_outside ls) (first_figure_outside ms) → cond b (Some l.figure) (first_figure_outside (ls ++ ms)) ≡ option_or (cond b (Some l.figure) (first_figure_outside ls)) (first_figure_outside ms)
+    go true e = refl
+    go false e = e
 
 -- a figure that is not below 0, as it is cast to a whole number
 pub natural : (z : ℤ) → SFits w64 z → pos 0 ≤ℤ z → pos (nat_abs (to_z w64 (of_z w64 z))) ≡ z

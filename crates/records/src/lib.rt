@@ -6,3 +6,4 @@ pub mod limits;
 pub mod ratios;
 pub mod record;
 pub mod refusals;
+pub mod signs;

@@ -1,5 +1,6 @@
 // Figures as they come, and the records that they make where they lie within their limits.
 ghost use Rattle.std.specs.Prelude.{◌≡◌, IfOk, Some, None, MatchResult};
+ghost use Rattle.records.specs.declared.limits.Misfit.TheVariants.{Outside};
 ghost use Rattle.records.specs.Limits.{outside, first_figure_outside, chord_limits, brace_limits, ratio_limits, brace_fault, shares_sum, IsChord, IsBrace, IsRatios};
 
 use crate::ratios::Ratios;
@@ -34,7 +35,7 @@ pub struct RatioFigures {
 }
 
 // A figure that is outside its limits.
-#[derive(Clone, Copy)]
+#[derive(Clone, Copy, Debug, PartialEq, Eq)]
 pub enum Figure {
     ChordDiameter,
     ChordWall,
@@ -58,10 +59,18 @@ pub enum Figure {
 }
 
 // Why figures make no brace record: one is outside its limits, or the shares sum to another number than 1,000.
-#[derive(Clone, Copy)]
+#[derive(Clone, Copy, Debug, PartialEq, Eq)]
 pub enum Misfit {
     Outside(Figure),
     SharesSum(i64),
+}
+
+impl From<Figure> for Misfit {
+    ghost from_gives = { λ figure misfit. misfit ≡ Outside figure };
+
+    fn from(figure: Figure) -> Misfit {
+        Misfit::Outside(figure)
+    }
 }
 
 // A value that is to lie from low to high, and the figure to name where it does not.
@@ -73,60 +82,63 @@ pub struct Limit {
     pub high: i128,
 }
 
-fn is_outside(limit: Limit) -> bool
-    ensures { result ≡ outside limit }
-{
-    limit.value < limit.low || limit.high < limit.value
+impl Limit {
+    fn is_outside(self) -> bool
+        ensures { result ≡ outside self }
+    {
+        self.value < self.low || self.high < self.value
+    }
 }
 
-// The figure of the first row whose value is outside.
-pub fn first_outside(limits: &[Limit]) -> Option<Figure>
-    ensures { result ≡ first_figure_outside limits.now }
+// That every value is within its row, or the figure of the first row whose value is outside.
+pub fn within(limits: &[Limit]) -> Result<(), Figure>
+    ensures { MatchResult result (λ _. first_figure_outside limits.now ≡ None) (λ x. first_figure_outside limits.now ≡ Some x) }
 {
     for x in limits {
-        if is_outside(*x) {
-            return Some(x.figure);
+        if x.is_outside() {
+            return Err(x.figure);
         }
     }
-    None
+    Ok(())
 }
 
-fn chord_outside(f: ChordFigures) -> Option<Figure>
-    ensures { result ≡ first_figure_outside (chord_limits f) }
-{
-    let limits = [
-        Limit {
-            figure: Figure::ChordDiameter,
-            low: 200,
-            value: f.diameter as i128,
-            high: 4000,
-        },
-        Limit {
-            figure: Figure::ChordWall,
-            low: 60,
-            value: f.wall as i128,
-            high: 2000,
-        },
-        Limit {
-            figure: Figure::ChordWall,
-            low: 2 * f.wall as i128,
-            value: f.diameter as i128,
-            high: 10 * f.wall as i128,
-        },
-        Limit {
-            figure: Figure::NominalWall,
-            low: f.wall as i128,
-            value: 2 * f.nominal as i128,
-            high: 2 * f.wall as i128,
-        },
-        Limit {
-            figure: Figure::ChordYield,
-            low: 200,
-            value: f.fy as i128,
-            high: 500,
-        },
-    ];
-    first_outside(&limits)
+impl ChordFigures {
+    fn limits(self) -> [Limit; 5]
+        ensures { result ≡ chord_limits self }
+    {
+        [
+            Limit {
+                figure: Figure::ChordDiameter,
+                low: 200,
+                value: self.diameter as i128,
+                high: 4000,
+            },
+            Limit {
+                figure: Figure::ChordWall,
+                low: 60,
+                value: self.wall as i128,
+                high: 2000,
+            },
+            Limit {
+                figure: Figure::ChordWall,
+                low: 2 * self.wall as i128,
+                value: self.diameter as i128,
+                high: 10 * self.wall as i128,
+            },
+            Limit {
+                figure: Figure::NominalWall,
+                low: self.wall as i128,
+                value: 2 * self.nominal as i128,
+                high: 2 * self.wall as i128,
+            },
+            Limit {
+                figure: Figure::ChordYield,
+                low: 200,
+                value: self.fy as i128,
+                high: 500,
+            },
+        ]
+    }
 }
 
 impl Chord {
@@ -135,9 +147,7 @@ impl Chord {
         ensures fault { MatchResult result (λ _. first_figure_outside (chord_limits f) ≡ None) (λ e. first_figure_outside (chord_limits f) ≡ Some e) }
         ensures is { IfOk result (λ c. IsChord c f) }
     {
-        if let Some(figure) = chord_outside(f) {
-            return Err(figure);
-        }
+        within(&f.limits())?;
         Ok(Chord {
             diameter: f.diameter as u64,
             wall: f.wall as u64,
@@ -147,68 +157,69 @@ impl Chord {
     }
 }
 
-fn brace_outside(chord: Chord, f: BraceFigures) -> Option<Figure>
-    ensures { result ≡ first_figure_outside (brace_limits chord f) }
-{
-    let diameter = chord.diameter as i128;
-    let wall = chord.wall as i128;
-    let limits = [
-        Limit {
-            figure: Figure::BraceDiameter,
-            low: diameter,
-            value: 5 * f.brace as i128,
-            high: 5 * diameter,
-        },
-        Limit {
-            figure: Figure::BraceWall,
-            low: wall,
-            value: 4 * f.thickness as i128,
-            high: 8 * wall,
-        },
-        Limit {
-            figure: Figure::BraceYield,
-            low: 200,
-            value: f.fyb as i128,
-            high: 500,
-        },
-        Limit {
-            figure: Figure::Sine,
-            low: 500000,
-            value: f.sine as i128,
-            high: 1000000,
-        },
-        Limit {
-            figure: Figure::Gap,
-            low: -3 * diameter,
-            value: 5 * f.gap as i128,
-            high: 20000,
-        },
-        Limit {
-            figure: Figure::CanLength,
-            low: 1,
-            value: f.length as i128,
-            high: 20000,
-        },
-        Limit {
-            figure: Figure::ShareK,
-            low: 0,
-            value: f.k as i128,
-            high: 1000,
-        },
-        Limit {
-            figure: Figure::ShareY,
-            low: 0,
-            value: f.y as i128,
-            high: 1000,
-        },
-        Limit {
-            figure: Figure::ShareX,
-            low: 0,
-            value: f.x as i128,
-            high: 1000,
-        },
-    ];
-    first_outside(&limits)
+impl BraceFigures {
+    fn limits(self, chord: Chord) -> [Limit; 9]
+        ensures { result ≡ brace_limits chord self }
+    {
+        let diameter = chord.diameter as i128;
+        let wall = chord.wall as i128;
+        [
+            Limit {
+                figure: Figure::BraceDiameter,
+                low: diameter,
+                value: 5 * self.brace as i128,
+                high: 5 * diameter,
+            },
+            Limit {
+                figure: Figure::BraceWall,
+                low: wall,
+                value: 4 * self.thickness as i128,
+                high: 8 * wall,
+            },
+            Limit {
+                figure: Figure::BraceYield,
+                low: 200,
+                value: self.fyb as i128,
+                high: 500,
+            },
+            Limit {
+                figure: Figure::Sine,
+                low: 500000,
+                value: self.sine as i128,
+                high: 1000000,
+            },
+            Limit {
+                figure: Figure::Gap,
+                low: -3 * diameter,
+                value: 5 * self.gap as i128,
+                high: 20000,
+            },
+            Limit {
+                figure: Figure::CanLength,
+                low: 1,
+                value: self.length as i128,
+                high: 20000,
+            },
+            Limit {
+                figure: Figure::ShareK,
+                low: 0,
+                value: self.k as i128,
+                high: 1000,
+            },
+            Limit {
+                figure: Figure::ShareY,
+                low: 0,
+                value: self.y as i128,
+                high: 1000,
+            },
+            Limit {
+                figure: Figure::ShareX,
+                low: 0,
+                value: self.x as i128,
+                high: 1000,
+            },
+        ]
+    }
 }
 
 impl BraceRecord {
@@ -217,9 +228,7 @@ impl BraceRecord {
         ensures fault { MatchResult result (λ _. brace_fault chord f ≡ None) (λ e. brace_fault chord f ≡ Some e) }
         ensures is { IfOk result (λ b. IsBrace b chord f) }
     {
-        if let Some(figure) = brace_outside(chord, f) {
-            return Err(Misfit::Outside(figure));
-        }
+        within(&f.limits(chord))?;
         let sum = f.k + f.y + f.x;
         if sum != 1000 {
             return Err(Misfit::SharesSum(sum));
@@ -248,30 +257,31 @@ impl BraceRecord {
     }
 }
 
-fn ratio_outside(f: RatioFigures) -> Option<Figure>
-    ensures { result ≡ first_figure_outside (ratio_limits f) }
-{
-    let limits = [
-        Limit {
-            figure: Figure::AxialRatio,
-            low: -10000,
-            value: f.p as i128,
-            high: 10000,
-        },
-        Limit {
-            figure: Figure::InPlaneRatio,
-            low: -10000,
-            value: f.mi as i128,
-            high: 10000,
-        },
-        Limit {
-            figure: Figure::OutOfPlaneRatio,
-            low: -10000,
-            value: f.mo as i128,
-            high: 10000,
-        },
-    ];
-    first_outside(&limits)
+impl RatioFigures {
+    fn limits(self) -> [Limit; 3]
+        ensures { result ≡ ratio_limits self }
+    {
+        [
+            Limit {
+                figure: Figure::AxialRatio,
+                low: -10000,
+                value: self.p as i128,
+                high: 10000,
+            },
+            Limit {
+                figure: Figure::InPlaneRatio,
+                low: -10000,
+                value: self.mi as i128,
+                high: 10000,
+            },
+            Limit {
+                figure: Figure::OutOfPlaneRatio,
+                low: -10000,
+                value: self.mo as i128,
+                high: 10000,
+            },
+        ]
+    }
 }
 
 impl Ratios {
@@ -280,9 +290,7 @@ impl Ratios {
         ensures fault { MatchResult result (λ _. first_figure_outside (ratio_limits f) ≡ None) (λ e. first_figure_outside (ratio_limits f) ≡ Some e) }
         ensures is { IfOk result (λ q. IsRatios q f) }
     {
-        if let Some(figure) = ratio_outside(f) {
-            return Err(figure);
-        }
+        within(&f.limits())?;
         Ok(Ratios {
             p: f.p,
             mi: f.mi,

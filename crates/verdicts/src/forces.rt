@@ -1,10 +1,10 @@
 // Figures of a force as they come, and the force that they make where they lie within their limits.
 ghost use Rattle.std.specs.Prelude.{◌≡◌, IfOk, Some, None, MatchResult};
 ghost use Rattle.records.specs.Limits.{first_figure_outside};
-ghost use Rattle.verdicts.specs.Forces.{force_limits, IsForce};
+ghost use Rattle.verdicts.specs.Forces.{newton_limits, force_limits, IsForce};
 
 use crate::force::Force;
-use records::limits::{Figure, Limit, first_outside};
+use records::limits::{Figure, Limit, RatioFigures, within};
 use records::ratios::Ratios;
 
 #[derive(Clone, Copy)]
@@ -12,53 +12,35 @@ pub struct ForceFigures {
     pub n: i64,
     pub my: i64,
     pub mz: i64,
-    pub p: i64,
-    pub mi: i64,
-    pub mo: i64,
+    pub ratios: RatioFigures,
 }
 
-fn force_outside(f: ForceFigures) -> Option<Figure>
-    ensures { result ≡ first_figure_outside (force_limits f) }
-{
-    let limits = [
-        Limit {
-            figure: Figure::AxialForce,
-            low: -100000000,
-            value: f.n as i128,
-            high: 100000000,
-        },
-        Limit {
-            figure: Figure::InPlaneMoment,
-            low: -100000000,
-            value: f.my as i128,
-            high: 100000000,
-        },
-        Limit {
-            figure: Figure::OutOfPlaneMoment,
-            low: -100000000,
-            value: f.mz as i128,
-            high: 100000000,
-        },
-        Limit {
-            figure: Figure::AxialRatio,
-            low: -10000,
-            value: f.p as i128,
-            high: 10000,
-        },
-        Limit {
-            figure: Figure::InPlaneRatio,
-            low: -10000,
-            value: f.mi as i128,
-            high: 10000,
-        },
-        Limit {
-            figure: Figure::OutOfPlaneRatio,
-            low: -10000,
-            value: f.mo as i128,
-            high: 10000,
-        },
-    ];
-    first_outside(&limits)
+impl ForceFigures {
+    // The rows of the force and its moments, before those of the ratios.
+    fn limits(self) -> [Limit; 3]
+        ensures { result ≡ newton_limits self }
+    {
+        [
+            Limit {
+                figure: Figure::AxialForce,
+                low: -100000000,
+                value: self.n as i128,
+                high: 100000000,
+            },
+            Limit {
+                figure: Figure::InPlaneMoment,
+                low: -100000000,
+                value: self.my as i128,
+                high: 100000000,
+            },
+            Limit {
+                figure: Figure::OutOfPlaneMoment,
+                low: -100000000,
+                value: self.mz as i128,
+                high: 100000000,
+            },
+        ]
+    }
 }
 
 impl Force {
@@ -67,14 +49,8 @@ impl Force {
         ensures fault { MatchResult result (λ _. first_figure_outside (force_limits f) ≡ None) (λ e. first_figure_outside (force_limits f) ≡ Some e) }
         ensures is { IfOk result (λ n. IsForce n f) }
     {
-        if let Some(figure) = force_outside(f) {
-            return Err(figure);
-        }
-        let ratios = Ratios {
-            p: f.p,
-            mi: f.mi,
-            mo: f.mo,
-        };
+        within(&f.limits())?;
+        let ratios = Ratios::new(f.ratios)?;
         Ok(Force {
             n: f.n,
             my: f.my,

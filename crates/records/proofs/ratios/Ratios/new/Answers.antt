@@ -1,4 +1,4 @@
-use Rattle.std.proofs.Common.{sym, ◌∙◌, w64, SFits, rules}
+use Rattle.std.proofs.Common.{w64, SFits, rules}
 use Rattle.std.proofs.lemmas.Int.{to_z-of_z}
 use Rattle.records.specs.Limits.{ratio_limits}
 use Rattle.records.proofs.Limited.{held, sized}
@@ -6,7 +6,7 @@ use Rattle.records.proofs.ratios.Ratios.new.Goals as goal
 
 pub invariant_of-result : goal.invariant_of-result
 invariant_of-result c =
-    let h = held (ratio_limits c.args.f) (sym c.ratio_outside.ensures ∙ c.in_default.is) in
+    let h = held (ratio_limits c.args.f) (rw c.limits.ensures at c.in_ok-within.ensures) in
     let p : SFits w64 c.args.f.p = search rules in
     let i : SFits w64 c.args.f.mi = search rules in
     let o : SFits w64 c.args.f.mo = search rules in

@@ -1,15 +1,15 @@
-use Rattle.std.proofs.Common.{◌≡◌, ◌*◌, ◌≤◌, pos, ◌+ℤ◌, nat_abs, ◌≤ℤ◌, None, sym, refl, ◌∙◌, arith, w64, SFits, to_z, of_z, rules}
+use Rattle.std.proofs.Common.{◌≡◌, ◌*◌, ◌≤◌, pos, ◌+ℤ◌, nat_abs, ◌≤ℤ◌, None, refl, arith, w64, SFits, to_z, of_z, rules}
 use borrow.Author.Differences.{ints}
 use Rattle.std.proofs.lemmas.Int.{to_z-of_z}
 use Rattle.records.specs.Signs.{apart, lap}
 use Rattle.records.specs.Limits.{first_figure_outside, brace_limits, shares_sum}
 use Rattle.records.proofs.Limited.{Holding, held, natural, casts, thousand, not_thousand, bits_thousand, thousand_bits, shares_make, natural_in, gap_in}
 use Rattle.records.proofs.record.BraceRecord.new.Goals as goal
-use Rattle.records.proofs.record.BraceRecord.new.Goals.{In_default}
+use Rattle.records.proofs.record.BraceRecord.new.Goals.{In_ok-within}
 
-module _ (c : goal.In_default) where
+module _ (c : goal.In_ok-within) where
   none : first_figure_outside (brace_limits c.args.chord c.args.f) ≡ None
-  none = sym c.brace_outside.ensures ∙ c.in_default.is
+  none = rw c.limits.ensures at c.in_ok-within.ensures
 
   limits : Holding (brace_limits c.args.chord c.args.f)
   limits = held (brace_limits c.args.chord c.args.f) none
@@ -103,14 +103,14 @@ module _ (c : goal.In_default) where
 
 pub overflow_add-sum : goal.overflow_add-sum
 overflow_add-sum c =
-    let d = (goal.at.overflow_add-sum c).In_default in
+    let d = (goal.at.overflow_add-sum c).In_ok-within in
     let k = fits_k d in
     let y = fits_y d in
     simp to_z-of_z (sum_fits d).0
 
 pub overflow_add-sum-2 : goal.overflow_add-sum-2
 overflow_add-sum-2 c =
-    let d = (goal.at.overflow_add-sum-2 c).In_default in
+    let d = (goal.at.overflow_add-sum-2 c).In_ok-within in
     let k = fits_k d in
     let y = fits_y d in
     let x = fits_x d in
@@ -119,7 +119,7 @@ overflow_add-sum-2 c =
 
 pub returns-then-sum-ne1000 : goal.returns-then-sum-ne1000
 returns-then-sum-ne1000 c =
-    let d = (goal.at.returns-then-sum-ne1000 c).In_default in
+    let d = (goal.at.returns-then-sum-ne1000 c).In_ok-within in
     let k = fits_k d in
     let y = fits_y d in
     let x = fits_x d in
@@ -128,32 +128,32 @@ returns-then-sum-ne1000 c =
     record { fault = simp to_z-of_z (rw (none d) (not_thousand (shares_sum c.args.f) (λ e. simp to_z-of_z at c.if-sum-ne1000.true (thousand_bits (shares_sum c.args.f) e)))); is = tt }
 
 pub overflow_cast-shares : goal.overflow_cast-shares
-overflow_cast-shares c = let d = (goal.at.overflow_cast-shares c).In_default in casts c.args.f.k (fits_k d) (from_k d)
+overflow_cast-shares c = let d = (goal.at.overflow_cast-shares c).In_ok-within in casts c.args.f.k (fits_k d) (from_k d)
 
 pub overflow_cast-shares-2 : goal.overflow_cast-shares-2
-overflow_cast-shares-2 c = let d = (goal.at.overflow_cast-shares-2 c).In_default in casts c.args.f.y (fits_y d) (from_y d)
+overflow_cast-shares-2 c = let d = (goal.at.overflow_cast-shares-2 c).In_ok-within in casts c.args.f.y (fits_y d) (from_y d)
 
 pub overflow_cast-shares-3 : goal.overflow_cast-shares-3
-overflow_cast-shares-3 c = let d = (goal.at.overflow_cast-shares-3 c).In_default in casts c.args.f.x (fits_x d) (from_x d)
+overflow_cast-shares-3 c = let d = (goal.at.overflow_cast-shares-3 c).In_ok-within in casts c.args.f.x (fits_x d) (from_x d)
 
 pub overflow_cast-can : goal.overflow_cast-can
-overflow_cast-can c = let d = (goal.at.overflow_cast-can c).In_default in casts c.args.f.length (fits_length d) (from_length d)
+overflow_cast-can c = let d = (goal.at.overflow_cast-can c).In_ok-within in casts c.args.f.length (fits_length d) (from_length d)
 
 pub overflow_cast-result : goal.overflow_cast-result
-overflow_cast-result c = let d = (goal.at.overflow_cast-result c).In_default in casts c.args.f.brace (fits_brace d) (from_brace d)
+overflow_cast-result c = let d = (goal.at.overflow_cast-result c).In_ok-within in casts c.args.f.brace (fits_brace d) (from_brace d)
 
 pub overflow_cast-result-2 : goal.overflow_cast-result-2
-overflow_cast-result-2 c = let d = (goal.at.overflow_cast-result-2 c).In_default in casts c.args.f.thickness (fits_thickness d) (from_thickness d)
+overflow_cast-result-2 c = let d = (goal.at.overflow_cast-result-2 c).In_ok-within in casts c.args.f.thickness (fits_thickness d) (from_thickness d)
 
 pub overflow_cast-result-3 : goal.overflow_cast-result-3
-overflow_cast-result-3 c = let d = (goal.at.overflow_cast-result-3 c).In_default in casts c.args.f.fyb (fits_fyb d) (from_fyb d)
+overflow_cast-result-3 c = let d = (goal.at.overflow_cast-result-3 c).In_ok-within in casts c.args.f.fyb (fits_fyb d) (from_fyb d)
 
 pub overflow_cast-result-4 : goal.overflow_cast-result-4
-overflow_cast-result-4 c = let d = (goal.at.overflow_cast-result-4 c).In_default in casts c.args.f.sine (fits_sine d) (from_sine d)
+overflow_cast-result-4 c = let d = (goal.at.overflow_cast-result-4 c).In_ok-within in casts c.args.f.sine (fits_sine d) (from_sine d)
 
 pub invariant_of-shares : goal.invariant_of-shares
 invariant_of-shares c =
-    let d = (goal.at.invariant_of-shares c).In_default in
+    let d = (goal.at.invariant_of-shares c).In_ok-within in
     let k = fits_k d in
     let y = fits_y d in
     let x = fits_x d in
@@ -167,7 +167,7 @@ invariant_of-shares c =
 
 pub invariant_of-result : goal.invariant_of-result
 invariant_of-result c =
-    let d = (goal.at.invariant_of-result c).In_default in
+    let d = (goal.at.invariant_of-result c).In_ok-within in
     let h = limits d in
     let a = is_fyb d in
     let b = is_brace d in
@@ -188,7 +188,7 @@ invariant_of-result c =
 
 pub returns : goal.returns
 returns c =
-    let d = (goal.at.returns c).In_default in
+    let d = (goal.at.returns c).In_ok-within in
     let g = fits_gap d in
     let k = fits_k d in
     let y = fits_y d in

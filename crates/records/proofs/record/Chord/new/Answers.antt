@@ -1,13 +1,13 @@
-use Rattle.std.proofs.Common.{◌≡◌, pos, nat_abs, sym, ◌∙◌, arith, w64, SFits, to_z, of_z, rules}
+use Rattle.std.proofs.Common.{◌≡◌, pos, nat_abs, arith, w64, SFits, to_z, of_z, rules}
 use borrow.Author.Differences.{ints}
 use Rattle.records.specs.Limits.{chord_limits}
 use Rattle.records.proofs.Limited.{Holding, held, natural, casts}
 use Rattle.records.proofs.record.Chord.new.Goals as goal
-use Rattle.records.proofs.record.Chord.new.Goals.{In_default}
+use Rattle.records.proofs.record.Chord.new.Goals.{In_ok-within}
 
-module _ (c : goal.In_default) where
+module _ (c : goal.In_ok-within) where
   limits : Holding (chord_limits c.args.f)
-  limits = held (chord_limits c.args.f) (sym c.chord_outside.ensures ∙ c.in_default.is)
+  limits = held (chord_limits c.args.f) (rw c.limits.ensures at c.in_ok-within.ensures)
 
   is_diameter : pos (nat_abs (to_z w64 (of_z w64 c.args.f.diameter))) ≡ c.args.f.diameter
   is_diameter = let h = limits in let f : SFits w64 c.args.f.diameter = search rules in natural c.args.f.diameter f (omega (arith, ints))
@@ -23,35 +23,35 @@ module _ (c : goal.In_default) where
 
 pub overflow_cast-result : goal.overflow_cast-result
 overflow_cast-result c =
-    let h = limits (goal.at.overflow_cast-result c).In_default in
+    let h = limits (goal.at.overflow_cast-result c).In_ok-within in
     let f : SFits w64 c.args.f.diameter = search rules in
     casts c.args.f.diameter f (omega (arith, ints))
 
 pub overflow_cast-result-2 : goal.overflow_cast-result-2
 overflow_cast-result-2 c =
-    let h = limits (goal.at.overflow_cast-result-2 c).In_default in
+    let h = limits (goal.at.overflow_cast-result-2 c).In_ok-within in
     let f : SFits w64 c.args.f.wall = search rules in
     casts c.args.f.wall f (omega (arith, ints))
 
 pub overflow_cast-result-3 : goal.overflow_cast-result-3
 overflow_cast-result-3 c =
-    let h = limits (goal.at.overflow_cast-result-3 c).In_default in
+    let h = limits (goal.at.overflow_cast-result-3 c).In_ok-within in
     let f : SFits w64 c.args.f.nominal = search rules in
     casts c.args.f.nominal f (omega (arith, ints))
 
 pub overflow_cast-result-4 : goal.overflow_cast-result-4
 overflow_cast-result-4 c =
-    let h = limits (goal.at.overflow_cast-result-4 c).In_default in
+    let h = limits (goal.at.overflow_cast-result-4 c).In_ok-within in
     let f : SFits w64 c.args.f.fy = search rules in
     casts c.args.f.fy f (omega (arith, ints))
 
 pub invariant_of-result : goal.invariant_of-result
 invariant_of-result c =
-    let h = limits (goal.at.invariant_of-result c).In_default in
-    let d = is_diameter (goal.at.invariant_of-result c).In_default in
-    let t = is_wall (goal.at.invariant_of-result c).In_default in
-    let n = is_nominal (goal.at.invariant_of-result c).In_default in
-    let y = is_fy (goal.at.invariant_of-result c).In_default in
+    let h = limits (goal.at.invariant_of-result c).In_ok-within in
+    let d = is_diameter (goal.at.invariant_of-result c).In_ok-within in
+    let t = is_wall (goal.at.invariant_of-result c).In_ok-within in
+    let n = is_nominal (goal.at.invariant_of-result c).In_ok-within in
+    let y = is_fy (goal.at.invariant_of-result c).In_ok-within in
     record {
       size = (omega (arith, ints), omega (arith, ints));
       thick = (omega (arith, ints), omega (arith, ints), omega (arith, ints));
@@ -61,8 +61,8 @@ invariant_of-result c =
 
 pub returns : goal.returns
 returns c =
-    let d = (goal.at.returns c).In_default in
+    let d = (goal.at.returns c).In_ok-within in
     record {
-      fault = sym c.chord_outside.ensures ∙ c.in_default.is;
+      fault = rw c.limits.ensures at c.in_ok-within.ensures;
       is = record { diameter = is_diameter d; wall = is_wall d; nominal = is_nominal d; fy = is_fy d };
     }
