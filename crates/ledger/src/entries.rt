@@ -20,7 +20,7 @@ pub struct Brace {
 }
 
 // The brace whose standing check reaches highest.
-#[derive(Clone, Copy)]
+#[derive(Clone, Copy, PartialEq, Eq, Debug)]
 pub struct Worst {
     pub joint: u32,
     pub brace: u32,

@@ -6,13 +6,13 @@ ghost use Rattle.ledger.specs.Causes.{cause, place_field, room_limit};
 use records::limits::{Figure, Misfit};
 use verdicts::verdict::Spent;
 
-#[derive(Clone, Copy)]
+#[derive(Clone, Copy, PartialEq, Eq, Debug)]
 pub enum Place {
     Joint,
     Brace,
 }
 
-#[derive(Clone, Copy)]
+#[derive(Clone, Copy, PartialEq, Eq, Debug)]
 pub enum Room {
     Joints,
     Braces,

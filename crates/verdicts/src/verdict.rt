@@ -2,7 +2,7 @@
 use records::kind::Kind;
 
 // The three ratios of a utilisation, in their order.
-#[derive(Clone, Copy)]
+#[derive(Clone, Copy, PartialEq, Eq, Debug)]
 pub enum Part {
     AxialForce,
     InPlaneMoment,
@@ -10,13 +10,13 @@ pub enum Part {
 }
 
 // A lower and an upper end, in millionths.
-#[derive(Clone, Copy)]
+#[derive(Clone, Copy, PartialEq, Eq, Debug)]
 pub struct Ends {
     pub low: u64,
     pub high: u64,
 }
 
-#[derive(Clone, Copy)]
+#[derive(Clone, Copy, PartialEq, Eq, Debug)]
 pub enum Verdict {
     Pass(Ends),
     Fail(Ends),
