@@ -26,23 +26,19 @@ pub enum Fault {
     NotText,
     Count(usize),
     NotNumber(usize),
-    Outside(Figure),
-    SharesSum(i64),
+    NoJoint(Misfit),
     NoLayers(PileFault),
 }
 
 impl From<Figure> for Fault {
     fn from(figure: Figure) -> Fault {
-        Fault::Outside(figure)
+        Fault::NoJoint(Misfit::from(figure))
     }
 }
 
 impl From<Misfit> for Fault {
     fn from(misfit: Misfit) -> Fault {
-        match misfit {
-            Misfit::Outside(figure) => Fault::Outside(figure),
-            Misfit::SharesSum(sum) => Fault::SharesSum(sum),
-        }
+        Fault::NoJoint(misfit)
     }
 }
 
@@ -61,7 +57,7 @@ struct Numbers<'a> {
 
 impl<'a> Numbers<'a> {
     // The next number, or none where the line ends.
-    fn next_if_any(&mut self) -> Result<Option<i64>, Fault> {
+    fn number_if_any(&mut self) -> Result<Option<i64>, Fault> {
         let Some(word) = self.words.next() else {
             return Ok(None);
         };
@@ -73,8 +69,8 @@ impl<'a> Numbers<'a> {
     }
 
     // The next number of those that each line has.
-    fn next(&mut self) -> Result<i64, Fault> {
-        self.next_if_any()?.ok_or(Fault::Count(self.taken))
+    fn number(&mut self) -> Result<i64, Fault> {
+        self.number_if_any()?.ok_or(Fault::Count(self.taken))
     }
 }
 
@@ -100,29 +96,29 @@ fn read_figures(text: &str) -> Result<Figures, Fault> {
         taken: 0,
     };
     let chord = ChordFigures {
-        diameter: numbers.next()?,
-        wall: numbers.next()?,
-        nominal: numbers.next()?,
-        fy: numbers.next()?,
+        diameter: numbers.number()?,
+        wall: numbers.number()?,
+        nominal: numbers.number()?,
+        fy: numbers.number()?,
     };
     let brace = BraceFigures {
-        brace: numbers.next()?,
-        thickness: numbers.next()?,
-        fyb: numbers.next()?,
-        sine: numbers.next()?,
-        gap: numbers.next()?,
-        length: numbers.next()?,
+        brace: numbers.number()?,
+        thickness: numbers.number()?,
+        fyb: numbers.number()?,
+        sine: numbers.number()?,
+        gap: numbers.number()?,
+        length: numbers.number()?,
         k: 0,
         y: 0,
         x: 1000,
     };
     let ratios = RatioFigures {
-        p: numbers.next()?,
-        mi: numbers.next()?,
-        mo: numbers.next()?,
+        p: numbers.number()?,
+        mi: numbers.number()?,
+        mo: numbers.number()?,
     };
-    let c = numbers.next_if_any()?.unwrap_or(100);
-    let can = numbers.next_if_any()?.unwrap_or(0);
+    let c = numbers.number_if_any()?.unwrap_or(100);
+    let can = numbers.number_if_any()?.unwrap_or(0);
     Ok(Figures {
         chord,
         brace,
@@ -217,16 +213,16 @@ impl fmt::Display for Fault {
             Fault::NotText => write!(f, "not text"),
             Fault::Count(count) => write!(f, "{count} numbers, where 13 to 15 are wanted"),
             Fault::NotNumber(field) => write!(f, "field {field} is no whole number"),
-            Fault::Outside(figure) => {
+            Fault::NoJoint(Misfit::Outside(figure)) => {
                 let letter = Letter(*figure);
                 match field(*figure) {
                     Some(place) => write!(f, "field {place}, {letter}, is outside its limits"),
                     None => write!(f, "{letter} is outside its limits"),
                 }
             }
+            Fault::NoJoint(Misfit::SharesSum(sum)) => write!(f, "the shares sum to {sum}"),
             Fault::NoLayers(PileFault::Divisor) => write!(f, "field 14, c, is outside its limits"),
             Fault::NoLayers(_) => write!(f, "field 15, can, is outside its limits"),
-            Fault::SharesSum(sum) => write!(f, "the shares sum to {sum}"),
         }
     }
 }

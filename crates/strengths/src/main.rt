@@ -3,18 +3,18 @@
 
 use std::io::{BufRead, BufReader};
 
-mod code;
 mod line;
 mod report;
+mod reported;
 mod row;
 
 fn run(rt: &HostRuntime) -> anyhow::Result<()> {
     let heap = rt.alloc();
     let input = BufReader::new(heap, rt.stdin())?;
-    for (turn, bytes) in (1..=u64::MAX).zip(input.split(heap, b'\n')) {
+    for (number, bytes) in (1..=u64::MAX).zip(input.split(heap, b'\n')) {
         match line::read_joint(bytes?.as_slice()) {
-            Ok(joint) => report::print_joint(rt, turn, &joint)?,
-            Err(fault) => println!(rt; "line {turn}: {fault}")?,
+            Ok(joint) => report::print_joint(rt, number, &joint)?,
+            Err(fault) => println!(rt; "line {number}: {fault}")?,
         }
     }
     Ok(())

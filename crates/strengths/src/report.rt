@@ -1,8 +1,8 @@
 // What is printed of a joint.
 ghost use Rattle.strengths.specs.Codes.{ToldBy};
 
-use crate::code::Reported;
 use crate::line::Joint;
+use crate::reported::Reported;
 use editions::api::Api;
 use editions::edition::Edition;
 use editions::iso::Iso2007;
@@ -38,6 +38,7 @@ impl fmt::Display for Name {
     }
 }
 
+// What the pile of a joint over this code tells, or none where the chord is spent.
 fn tell<C: Reported>(code: &C, joint: &Joint, kind: Kind) -> Option<Strength>
     ensures { ToldBy C.pile joint.now kind result }
 {
@@ -56,13 +57,13 @@ impl fmt::Display for Millionths {
     }
 }
 
-// How far apart the ends are, in thousandths of a part in a million of the lower one, rounded up.
-fn width(low: u64, high: u64) -> u128 {
-    if low == 0 {
+// How far apart the ends are, in thousandths of a part in a million of the lower one, rounded up; 0 where the lower end is 0.
+fn width(strength: Strength) -> u128 {
+    if strength.low == 0 {
         return 0;
     }
-    let apart = high.saturating_sub(low) as u128 * 1000000000;
-    apart.div_ceil(low as u128)
+    let apart = strength.high.saturating_sub(strength.low);
+    (apart as u128 * 1000000000).div_ceil(strength.low as u128)
 }
 
 fn print_kind<C: Reported>(
@@ -73,26 +74,23 @@ fn print_kind<C: Reported>(
 ) -> anyhow::Result<()> {
     let name = Name(kind);
     let row = code.row_of(&joint.brace, kind);
-    let Some(q) = code.qf(&joint.brace, joint.ratios, kind) else {
+    let Some(q) = code.chord_factor(&joint.brace, joint.ratios, kind) else {
         println!(rt; "  {name:<13}  {row}  Qf SPENT")?;
         return Ok(());
     };
-    let num = q.num;
-    let den = q.den;
-    print!(rt; "  {name:<13}  {row}  Qf {num}/{den}")?;
-    match tell(code, joint, kind) {
-        None => println!(rt; "  SPENT")?,
-        Some(Strength { low, high }) => {
-            let ppm = width(low, high);
-            println!(rt;
-                "  low {}  high {}  width {}.{:03} ppm",
-                Millionths(low),
-                Millionths(high),
-                ppm / 1000,
-                ppm % 1000
-            )?;
-        }
-    }
+    print!(rt; "  {name:<13}  {row}  Qf {}/{}", q.num, q.den)?;
+    let Some(strength) = tell(code, joint, kind) else {
+        println!(rt; "  SPENT")?;
+        return Ok(());
+    };
+    let ppm = width(strength);
+    println!(rt;
+        "  low {}  high {}  width {}.{:03} ppm",
+        Millionths(strength.low),
+        Millionths(strength.high),
+        ppm / 1000,
+        ppm % 1000
+    )?;
     Ok(())
 }
 

@@ -11,16 +11,15 @@ ghost use Rattle.strengths.specs.Rows.{row_by_iso, row_by_api};
 use crate::line::Joint;
 use crate::row::{Bound, Row, beta_row};
 use editions::api::Api;
+use editions::code::Code;
 use editions::iso::Iso2007;
 use editions::rows::{api_gap_row, iso_gap_row};
 use layers::pile::Pile;
-use powers::quotient::Quotient;
 use records::kind::Kind;
-use records::ratios::Ratios;
 use records::record::BraceRecord;
 
 // A code of practice has a table of its own, and a joint has a pile of layers over each.
-pub trait Reported {
+pub trait Reported: Code {
     ghost pile: { Joint → Pile };
 
     ghost row: { BraceRecord → Kind → Row };
@@ -33,8 +32,6 @@ pub trait Reported {
     // Which row of the table a strength comes from.
     fn row_of(&self, r: &BraceRecord, kind: Kind) -> Row
         ensures { result ≡ row r.now kind };
-
-    fn qf(&self, brace: &BraceRecord, ratios: Ratios, kind: Kind) -> Option<Quotient>;
 }
 
 impl Reported for Iso2007 {
@@ -49,23 +46,24 @@ impl Reported for Iso2007 {
     }
 
     fn row_of(&self, r: &BraceRecord, kind: Kind) -> Row {
-        let gap = match kind {
-            Kind::KAxial => Some(iso_gap_row(r)),
-            _ => None,
-        };
-        let beta = match kind {
-            Kind::KAxial | Kind::YCompression | Kind::XCompression => Some(beta_row(
-                Bound::SixTenths,
-                r,
-            )),
-            Kind::XTension => Some(beta_row(Bound::NineTenths, r)),
-            _ => None,
-        };
-        Row { gap, beta }
-    }
-
-    fn qf(&self, brace: &BraceRecord, ratios: Ratios, kind: Kind) -> Option<Quotient> {
-        self.chord_factor(brace, ratios, kind)
+        match kind {
+            Kind::KAxial => Row {
+                gap: Some(iso_gap_row(r)),
+                beta: Some(beta_row(Bound::SixTenths, r)),
+            },
+            Kind::YCompression | Kind::XCompression => Row {
+                gap: None,
+                beta: Some(beta_row(Bound::SixTenths, r)),
+            },
+            Kind::XTension => Row {
+                gap: None,
+                beta: Some(beta_row(Bound::NineTenths, r)),
+            },
+            Kind::YTension | Kind::InPlane | Kind::OutOfPlane => Row {
+                gap: None,
+                beta: None,
+            },
+        }
     }
 }
 
@@ -81,19 +79,23 @@ impl Reported for Api {
     }
 
     fn row_of(&self, r: &BraceRecord, kind: Kind) -> Row {
-        let gap = match kind {
-            Kind::KAxial => Some(api_gap_row(r)),
-            _ => None,
-        };
-        let beta = match kind {
-            Kind::XCompression => Some(beta_row(Bound::SixTenths, r)),
-            Kind::XTension => Some(beta_row(Bound::NineTenths, r)),
-            _ => None,
-        };
-        Row { gap, beta }
-    }
-
-    fn qf(&self, brace: &BraceRecord, ratios: Ratios, kind: Kind) -> Option<Quotient> {
-        self.chord_factor(brace, ratios, kind)
+        match kind {
+            Kind::KAxial => Row {
+                gap: Some(api_gap_row(r)),
+                beta: None,
+            },
+            Kind::XCompression => Row {
+                gap: None,
+                beta: Some(beta_row(Bound::SixTenths, r)),
+            },
+            Kind::XTension => Row {
+                gap: None,
+                beta: Some(beta_row(Bound::NineTenths, r)),
+            },
+            Kind::YTension | Kind::YCompression | Kind::InPlane | Kind::OutOfPlane => Row {
+                gap: None,
+                beta: None,
+            },
+        }
     }
 }
