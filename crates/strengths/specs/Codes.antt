@@ -1,11 +1,12 @@
 -- What the program tells of a strength.
 --
---     pile_by code j         the pile of a joint for a code
---     ToldBy code j k s      s is what that pile tells of the joint's brace, ratios and the kind k
+--     pile_by_iso j          the pile of a joint over ISO's edition
+--     pile_by_api j          the pile of a joint over API's edition
+--     ToldBy pile j k s      s is what that pile of the joint j tells of its brace, its ratios and the kind k: a strength, or none where
+--                            the chord is spent
 --
 -- Assumes nothing.
-use Rattle.strengths.specs.declared.row.Code.{Code}
-use Rattle.strengths.specs.declared.row.Code.TheVariants.{Iso, Api}
+use Rattle.std.specs.Prelude.{Option}
 use Rattle.strengths.specs.declared.line.Joint.{Joint}
 use Rattle.records.specs.declared.kind.Kind.{Kind}
 use Rattle.editions.specs.declared.strength.Strength.{Strength}
@@ -13,9 +14,11 @@ use Rattle.editions.specs.Meanings.{Tells}
 use Rattle.layers.specs.declared.pile.Pile.{Pile}
 use Rattle.layers.specs.PileMeanings.{pile_meaning}
 
-abbrev pub pile_by : Code → Joint → Pile
-pile_by Iso j = j.iso
-pile_by Api j = j.api
+abbrev pub pile_by_iso : Joint → Pile
+pile_by_iso j = j.iso
 
-abbrev pub ToldBy : Code → Joint → Kind → Strength → Type 0
-ToldBy code j k s = Tells (pile_meaning (pile_by code j)) j.brace j.ratios k s
+abbrev pub pile_by_api : Joint → Pile
+pile_by_api j = j.api
+
+abbrev pub ToldBy : (Joint → Pile) → Joint → Kind → Option Strength → Type 0
+ToldBy pile j k s = Tells (pile_meaning (pile j)) j.brace j.ratios k s

@@ -1,10 +1,14 @@
 // One line of input: thirteen whole numbers that describe a joint, and up to two that name layers over both editions.
+ghost use Rattle.std.specs.Prelude.{IfOk};
+ghost use Rattle.strengths.specs.Lines.{Described};
+
 use layers::pile::Pile;
 use layers::pile_fault::PileFault;
 use records::limits::{BraceFigures, ChordFigures, Figure, Misfit, RatioFigures};
 use records::ratios::Ratios;
 use records::record::{BraceRecord, Chord};
 use std::fmt;
+use std::str::SplitWhitespace;
 
 #[derive(Drop)]
 pub struct Joint {
@@ -22,23 +26,19 @@ pub enum Fault {
     NotText,
     Count(usize),
     NotNumber(usize),
-    Outside(Figure),
-    SharesSum(i64),
+    NoJoint(Misfit),
     NoLayers(PileFault),
 }
 
 impl From<Figure> for Fault {
     fn from(figure: Figure) -> Fault {
-        Fault::Outside(figure)
+        Fault::NoJoint(Misfit::from(figure))
     }
 }
 
 impl From<Misfit> for Fault {
     fn from(misfit: Misfit) -> Fault {
-        match misfit {
-            Misfit::Outside(figure) => Fault::Outside(figure),
-            Misfit::SharesSum(sum) => Fault::SharesSum(sum),
-        }
+        Fault::NoJoint(misfit)
     }
 }
 
@@ -48,101 +48,162 @@ impl From<PileFault> for Fault {
     }
 }
 
-// The numbers of a line. Where it has no fourteenth there is no divisor, and where it has no fifteenth no can.
-fn numbers(text: &str) -> Result<[i64; 15], Fault> {
-    let mut values = [0i64; 15];
-    values[13] = 100;
-    let mut count: usize = 0;
-    let mut bad: usize = 0;
-    for word in text.split_whitespace() {
-        if count < 15 {
-            match word.parse::<i64>() {
-                Ok(value) => values[count] = value,
-                Err(_) => {
-                    if bad == 0 {
-                        bad = count + 1;
-                    }
-                }
-            }
-        }
-        count = count.saturating_add(1);
-    }
-    if count < 13 || count > 15 {
-        return Err(Fault::Count(count));
-    }
-    if bad != 0 {
-        return Err(Fault::NotNumber(bad));
-    }
-    Ok(values)
+// The words of a line, taken one after another as whole numbers.
+#[derive(Drop)]
+struct Numbers<'a> {
+    words: SplitWhitespace<'a>,
+    taken: usize,
 }
 
-// Strengths do not depend on the class shares: all is taken as X.
-fn described(n: [i64; 15]) -> Result<Joint, Fault> {
-    let chord = Chord::new(ChordFigures {
-        diameter: n[0],
-        wall: n[1],
-        nominal: n[2],
-        fy: n[3],
-    })?;
-    let figures = BraceFigures {
-        brace: n[4],
-        thickness: n[5],
-        fyb: n[6],
-        sine: n[7],
-        gap: n[8],
-        length: n[9],
+impl<'a> Numbers<'a> {
+    // The next number, or none where the line ends.
+    fn number_if_any(&mut self) -> Result<Option<i64>, Fault> {
+        let Some(word) = self.words.next() else {
+            return Ok(None);
+        };
+        self.taken = self.taken.saturating_add(1);
+        match word.parse::<i64>() {
+            Ok(number) => Ok(Some(number)),
+            Err(_) => Err(Fault::NotNumber(self.taken)),
+        }
+    }
+
+    // The next number of those that each line has.
+    fn number(&mut self) -> Result<i64, Fault> {
+        self.number_if_any()?.ok_or(Fault::Count(self.taken))
+    }
+}
+
+// The numbers of a line.
+#[derive(Clone, Copy)]
+struct Figures {
+    chord: ChordFigures,
+    brace: BraceFigures,
+    ratios: RatioFigures,
+    c: i64,
+    can: i64,
+}
+
+// A line of too few or too many numbers is told by their count, whatever else is wrong with it. Where it has no fourteenth there is
+// no divisor, and where it has no fifteenth no can. Strengths do not depend on the class shares: all is taken as X.
+fn read_figures(text: &str) -> Result<Figures, Fault> {
+    let count = text.split_whitespace().count();
+    if !(13..=15).contains(&count) {
+        return Err(Fault::Count(count));
+    }
+    let mut numbers = Numbers {
+        words: text.split_whitespace(),
+        taken: 0,
+    };
+    let chord = ChordFigures {
+        diameter: numbers.number()?,
+        wall: numbers.number()?,
+        nominal: numbers.number()?,
+        fy: numbers.number()?,
+    };
+    let brace = BraceFigures {
+        brace: numbers.number()?,
+        thickness: numbers.number()?,
+        fyb: numbers.number()?,
+        sine: numbers.number()?,
+        gap: numbers.number()?,
+        length: numbers.number()?,
         k: 0,
         y: 0,
         x: 1000,
     };
-    let brace = BraceRecord::new(chord, figures)?;
-    let ratios = Ratios::new(RatioFigures {
-        p: n[10],
-        mi: n[11],
-        mo: n[12],
-    })?;
-    let iso = Pile::of(1, n[13], n[14])?;
-    let api = Pile::of(2, n[13], n[14])?;
+    let ratios = RatioFigures {
+        p: numbers.number()?,
+        mi: numbers.number()?,
+        mo: numbers.number()?,
+    };
+    let c = numbers.number_if_any()?.unwrap_or(100);
+    let can = numbers.number_if_any()?.unwrap_or(0);
+    Ok(Figures {
+        chord,
+        brace,
+        ratios,
+        c,
+        can,
+    })
+}
+
+fn described(figures: Figures) -> Result<Joint, Fault>
+    ensures { IfOk result Described }
+{
+    let Figures { c, can, .. } = figures;
+    let chord = Chord::new(figures.chord)?;
+    let brace = BraceRecord::new(chord, figures.brace)?;
+    let ratios = Ratios::new(figures.ratios)?;
+    let iso = Pile::of(1, c, can)?;
+    let api = Pile::of(2, c, can)?;
     Ok(Joint {
         brace,
         ratios,
-        c: n[13],
-        can: n[14],
+        c,
+        can,
         iso,
         api,
     })
 }
 
-pub fn read_joint(bytes: &[u8]) -> Result<Joint, Fault> {
+pub fn read_joint(bytes: &[u8]) -> Result<Joint, Fault>
+    ensures { IfOk result Described }
+{
     let Ok(text) = std::str::from_utf8(bytes) else {
         return Err(Fault::NotText);
     };
-    let values = numbers(text)?;
-    described(values)
+    described(read_figures(text)?)
 }
 
-// The field of a figure on a line, and its name; 0 for a figure that no line has.
-fn field(figure: Figure) -> (u8, &'static str) {
+// The field of a figure on a line, or none for a figure that no line has.
+fn field(figure: Figure) -> Option<u8> {
     match figure {
-        Figure::ChordDiameter => (1, "D"),
-        Figure::ChordWall => (2, "T"),
-        Figure::NominalWall => (3, "Tn"),
-        Figure::ChordYield => (4, "fy"),
-        Figure::BraceDiameter => (5, "d"),
-        Figure::BraceWall => (6, "t"),
-        Figure::BraceYield => (7, "fyb"),
-        Figure::Sine => (8, "s"),
-        Figure::Gap => (9, "g"),
-        Figure::CanLength => (10, "Lc"),
-        Figure::ShareK => (0, "K share"),
-        Figure::ShareY => (0, "Y share"),
-        Figure::ShareX => (0, "X share"),
-        Figure::AxialRatio => (11, "p"),
-        Figure::InPlaneRatio => (12, "mi"),
-        Figure::OutOfPlaneRatio => (13, "mo"),
-        Figure::AxialForce => (0, "N"),
-        Figure::InPlaneMoment => (0, "My"),
-        Figure::OutOfPlaneMoment => (0, "Mz"),
+        Figure::ChordDiameter => Some(1),
+        Figure::ChordWall => Some(2),
+        Figure::NominalWall => Some(3),
+        Figure::ChordYield => Some(4),
+        Figure::BraceDiameter => Some(5),
+        Figure::BraceWall => Some(6),
+        Figure::BraceYield => Some(7),
+        Figure::Sine => Some(8),
+        Figure::Gap => Some(9),
+        Figure::CanLength => Some(10),
+        Figure::AxialRatio => Some(11),
+        Figure::InPlaneRatio => Some(12),
+        Figure::OutOfPlaneRatio => Some(13),
+        Figure::ShareK | Figure::ShareY | Figure::ShareX => None,
+        Figure::AxialForce | Figure::InPlaneMoment | Figure::OutOfPlaneMoment => None,
+    }
+}
+
+// A figure by the letter that engineers write for it.
+#[derive(Clone, Copy)]
+struct Letter(Figure);
+
+impl fmt::Display for Letter {
+    fn fmt<W: fmt::Write>(&self, f: &mut fmt::Formatter<W>) -> fmt::Result {
+        f.pad(match self.0 {
+            Figure::ChordDiameter => "D",
+            Figure::ChordWall => "T",
+            Figure::NominalWall => "Tn",
+            Figure::ChordYield => "fy",
+            Figure::BraceDiameter => "d",
+            Figure::BraceWall => "t",
+            Figure::BraceYield => "fyb",
+            Figure::Sine => "s",
+            Figure::Gap => "g",
+            Figure::CanLength => "Lc",
+            Figure::ShareK => "K share",
+            Figure::ShareY => "Y share",
+            Figure::ShareX => "X share",
+            Figure::AxialRatio => "p",
+            Figure::InPlaneRatio => "mi",
+            Figure::OutOfPlaneRatio => "mo",
+            Figure::AxialForce => "N",
+            Figure::InPlaneMoment => "My",
+            Figure::OutOfPlaneMoment => "Mz",
+        })
     }
 }
 
@@ -152,13 +213,16 @@ impl fmt::Display for Fault {
             Fault::NotText => write!(f, "not text"),
             Fault::Count(count) => write!(f, "{count} numbers, where 13 to 15 are wanted"),
             Fault::NotNumber(field) => write!(f, "field {field} is no whole number"),
-            Fault::Outside(figure) => {
-                let (place, name) = field(*figure);
-                write!(f, "field {place}, {name}, is outside its limits")
+            Fault::NoJoint(Misfit::Outside(figure)) => {
+                let letter = Letter(*figure);
+                match field(*figure) {
+                    Some(place) => write!(f, "field {place}, {letter}, is outside its limits"),
+                    None => write!(f, "{letter} is outside its limits"),
+                }
             }
+            Fault::NoJoint(Misfit::SharesSum(sum)) => write!(f, "the shares sum to {sum}"),
             Fault::NoLayers(PileFault::Divisor) => write!(f, "field 14, c, is outside its limits"),
             Fault::NoLayers(_) => write!(f, "field 15, can, is outside its limits"),
-            Fault::SharesSum(sum) => write!(f, "the shares sum to {sum}"),
         }
     }
 }

@@ -1,17 +1,13 @@
 // What is printed of a joint.
-ghost use Rattle.std.specs.Prelude.{◌≡◌};
 ghost use Rattle.strengths.specs.Codes.{ToldBy};
 
 use crate::line::Joint;
-use crate::row::{Code, Row, row_of};
+use crate::reported::Reported;
 use editions::api::Api;
 use editions::edition::Edition;
 use editions::iso::Iso2007;
 use editions::strength::Strength;
-use powers::quotient::Quotient;
 use records::kind::Kind;
-use records::ratios::Ratios;
-use records::record::BraceRecord;
 use std::fmt;
 
 const KINDS: [Kind; 7] = [
@@ -24,32 +20,29 @@ const KINDS: [Kind; 7] = [
     Kind::OutOfPlane,
 ];
 
-fn name(kind: Kind) -> &'static str {
-    match kind {
-        Kind::KAxial => "K axial",
-        Kind::YTension => "Y tension",
-        Kind::YCompression => "Y compression",
-        Kind::XTension => "X tension",
-        Kind::XCompression => "X compression",
-        Kind::InPlane => "in-plane",
-        Kind::OutOfPlane => "out-of-plane",
+// A kind of strength by its name.
+#[derive(Clone, Copy)]
+struct Name(Kind);
+
+impl fmt::Display for Name {
+    fn fmt<W: fmt::Write>(&self, f: &mut fmt::Formatter<W>) -> fmt::Result {
+        f.pad(match self.0 {
+            Kind::KAxial => "K axial",
+            Kind::YTension => "Y tension",
+            Kind::YCompression => "Y compression",
+            Kind::XTension => "X tension",
+            Kind::XCompression => "X compression",
+            Kind::InPlane => "in-plane",
+            Kind::OutOfPlane => "out-of-plane",
+        })
     }
 }
 
-fn tell(code: Code, joint: &Joint, kind: Kind) -> Strength
-    ensures { ToldBy code joint.now kind result }
+// What the pile of a joint over this code tells, or none where the chord is spent.
+fn tell<C: Reported>(code: &C, joint: &Joint, kind: Kind) -> Option<Strength>
+    ensures { ToldBy C.pile joint.now kind result }
 {
-    match code {
-        Code::Iso => joint.iso.tell(&joint.brace, joint.ratios, kind),
-        Code::Api => joint.api.tell(&joint.brace, joint.ratios, kind),
-    }
-}
-
-fn chord_factor(code: Code, brace: &BraceRecord, ratios: Ratios, kind: Kind) -> Option<Quotient> {
-    match code {
-        Code::Iso => Iso2007 {}.chord_factor(brace, ratios, kind),
-        Code::Api => Api {}.chord_factor(brace, ratios, kind),
-    }
+    code.pile_of(joint).tell(&joint.brace, joint.ratios, kind)
 }
 
 // A number of millionths, with six decimals.
@@ -64,47 +57,45 @@ impl fmt::Display for Millionths {
     }
 }
 
-// How far apart the ends are, in thousandths of a part in a million of the lower one, rounded up.
-fn width(low: u64, high: u64) -> u128 {
-    let apart = high.saturating_sub(low) as u128 * 1000000000;
-    if low == 0 {
-        0
-    } else {
-        (apart + (low as u128 - 1)) / low as u128
+// How far apart the ends are, in thousandths of a part in a million of the lower one, rounded up; 0 where the lower end is 0.
+fn width(strength: Strength) -> u128 {
+    if strength.low == 0 {
+        return 0;
     }
+    let apart = strength.high.saturating_sub(strength.low);
+    (apart as u128 * 1000000000).div_ceil(strength.low as u128)
 }
 
-fn print_kind(rt: &HostRuntime, code: Code, joint: &Joint, kind: Kind) -> anyhow::Result<()> {
-    let name = name(kind);
-    let row = row_of(code, &joint.brace, kind);
-    let Some(q) = chord_factor(code, &joint.brace, joint.ratios, kind) else {
+fn print_kind<C: Reported>(
+    rt: &HostRuntime,
+    code: &C,
+    joint: &Joint,
+    kind: Kind,
+) -> anyhow::Result<()> {
+    let name = Name(kind);
+    let row = code.row_of(&joint.brace, kind);
+    let Some(q) = code.chord_factor(&joint.brace, joint.ratios, kind) else {
         println!(rt; "  {name:<13}  {row}  Qf SPENT")?;
         return Ok(());
     };
-    let num = q.num;
-    let den = q.den;
-    print!(rt; "  {name:<13}  {row}  Qf {num}/{den}")?;
-    match tell(code, joint, kind) {
-        Strength::Spent => println!(rt; "  SPENT")?,
-        Strength::Ends { low, high } => {
-            let ppm = width(low, high);
-            println!(rt;
-                "  low {}  high {}  width {}.{:03} ppm",
-                Millionths(low),
-                Millionths(high),
-                ppm / 1000,
-                ppm % 1000
-            )?;
-        }
-    }
+    print!(rt; "  {name:<13}  {row}  Qf {}/{}", q.num, q.den)?;
+    let Some(strength) = tell(code, joint, kind) else {
+        println!(rt; "  SPENT")?;
+        return Ok(());
+    };
+    let ppm = width(strength);
+    println!(rt;
+        "  low {}  high {}  width {}.{:03} ppm",
+        Millionths(strength.low),
+        Millionths(strength.high),
+        ppm / 1000,
+        ppm % 1000
+    )?;
     Ok(())
 }
 
-fn print_code(rt: &HostRuntime, code: Code, joint: &Joint) -> anyhow::Result<()> {
-    match code {
-        Code::Iso => println!(rt; " iso2007")?,
-        Code::Api => println!(rt; " api")?,
-    }
+fn print_code<C: Reported>(rt: &HostRuntime, code: &C, joint: &Joint) -> anyhow::Result<()> {
+    println!(rt; " {}", C::HEADING)?;
     for kind in KINDS {
         print_kind(rt, code, joint, kind)?;
     }
@@ -131,6 +122,6 @@ pub fn print_joint(rt: &HostRuntime, line: u64, joint: &Joint) -> anyhow::Result
         "  p {} mi {} mo {}  c {} can {}",
         q.p, q.mi, q.mo, joint.c, joint.can
     )?;
-    print_code(rt, Code::Iso, joint)?;
-    print_code(rt, Code::Api, joint)
+    print_code(rt, &Iso2007 {}, joint)?;
+    print_code(rt, &Api {}, joint)
 }

@@ -1,101 +1,77 @@
-// Which row of a code's table a strength comes from, in words.
-use editions::rows::{
-    GapRow, api_gap_row, beta_above_nine_tenths, beta_above_six_tenths, iso_gap_row,
-};
-use records::kind::Kind;
+// A row of a code's table: where the gap and β lie, if the table asks.
+ghost use Rattle.std.specs.Prelude.{◌≡◌};
+ghost use Rattle.strengths.specs.Rows.{beta_row as beta_row_by};
+
+use editions::rows::{GapRow, beta_above_nine_tenths, beta_above_six_tenths};
 use records::record::BraceRecord;
 use std::fmt;
 
 #[derive(Clone, Copy)]
-pub enum Code {
-    Iso,
-    Api,
+pub enum Bound {
+    SixTenths,
+    NineTenths,
 }
 
-// Where β lies, if the table asks.
 #[derive(Clone, Copy)]
 pub enum BetaRow {
-    Any,
-    UpToSixTenths,
-    AboveSixTenths,
-    UpToNineTenths,
-    AboveNineTenths,
+    UpTo(Bound),
+    Above(Bound),
 }
 
 #[derive(Clone, Copy)]
 pub struct Row {
-    gap: Option<GapRow>,
-    beta: BetaRow,
+    pub gap: Option<GapRow>,
+    pub beta: Option<BetaRow>,
 }
 
-fn by_six_tenths(r: &BraceRecord) -> BetaRow {
-    if beta_above_six_tenths(r) {
-        BetaRow::AboveSixTenths
+pub fn beta_row(bound: Bound, r: &BraceRecord) -> BetaRow
+    ensures { result ≡ beta_row_by bound r.now }
+{
+    let above = match bound {
+        Bound::SixTenths => beta_above_six_tenths(r),
+        Bound::NineTenths => beta_above_nine_tenths(r),
+    };
+    if above {
+        BetaRow::Above(bound)
     } else {
-        BetaRow::UpToSixTenths
+        BetaRow::UpTo(bound)
     }
 }
 
-fn by_nine_tenths(r: &BraceRecord) -> BetaRow {
-    if beta_above_nine_tenths(r) {
-        BetaRow::AboveNineTenths
-    } else {
-        BetaRow::UpToNineTenths
+// A row of a gap factor, in words.
+#[derive(Clone, Copy)]
+struct InWords(GapRow);
+
+impl fmt::Display for InWords {
+    fn fmt<W: fmt::Write>(&self, f: &mut fmt::Formatter<W>) -> fmt::Result {
+        f.pad(match self.0 {
+            GapRow::Gap => "gap",
+            GapRow::Between => "between",
+            GapRow::Overlap => "overlap",
+        })
     }
 }
 
-pub fn row_of(code: Code, r: &BraceRecord, kind: Kind) -> Row {
-    match (code, kind) {
-        (Code::Iso, Kind::KAxial) => Row {
-            gap: Some(iso_gap_row(r)),
-            beta: by_six_tenths(r),
-        },
-        (Code::Api, Kind::KAxial) => Row {
-            gap: Some(api_gap_row(r)),
-            beta: BetaRow::Any,
-        },
-        (Code::Iso, Kind::YCompression) => Row {
-            gap: None,
-            beta: by_six_tenths(r),
-        },
-        (_, Kind::XTension) => Row {
-            gap: None,
-            beta: by_nine_tenths(r),
-        },
-        (_, Kind::XCompression) => Row {
-            gap: None,
-            beta: by_six_tenths(r),
-        },
-        _ => Row {
-            gap: None,
-            beta: BetaRow::Any,
-        },
-    }
-}
-
-fn gap_words(gap: Option<GapRow>) -> &'static str {
-    match gap {
-        None => "",
-        Some(GapRow::Gap) => "gap",
-        Some(GapRow::Between) => "between",
-        Some(GapRow::Overlap) => "overlap",
-    }
-}
-
-fn beta_words(beta: BetaRow) -> &'static str {
-    match beta {
-        BetaRow::Any => "any beta",
-        BetaRow::UpToSixTenths => "beta up to 0.6",
-        BetaRow::AboveSixTenths => "beta above 0.6",
-        BetaRow::UpToNineTenths => "beta up to 0.9",
-        BetaRow::AboveNineTenths => "beta above 0.9",
+impl fmt::Display for BetaRow {
+    fn fmt<W: fmt::Write>(&self, f: &mut fmt::Formatter<W>) -> fmt::Result {
+        f.pad(match self {
+            BetaRow::UpTo(Bound::SixTenths) => "beta up to 0.6",
+            BetaRow::UpTo(Bound::NineTenths) => "beta up to 0.9",
+            BetaRow::Above(Bound::SixTenths) => "beta above 0.6",
+            BetaRow::Above(Bound::NineTenths) => "beta above 0.9",
+        })
     }
 }
 
 impl fmt::Display for Row {
     fn fmt<W: fmt::Write>(&self, f: &mut fmt::Formatter<W>) -> fmt::Result {
-        let gap = gap_words(self.gap);
-        let beta = beta_words(self.beta);
-        write!(f, "{beta:<14} {gap:<7}")
+        match self.beta {
+            None => write!(f, "{:<14} ", "any beta")?,
+            Some(beta) => write!(f, "{beta:<14} ")?,
+        }
+        match self.gap {
+            None => write!(f, "{:<7}", ""),
+            Some(gap) => write!(f, "{:<7}", InWords(gap)),
+        }
     }
 }
