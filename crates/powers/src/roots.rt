@@ -62,6 +62,7 @@ pub fn square_root(r: Quotient) -> Ends
 }
 
 // The largest number whose n-th power is at most `limit`, which has at most n times `bits` bits.
+// A bisection, and so a `while`: which of the two ends moves is known only from the power of the middle.
 fn floor_nth_root(limit: u128, n: u32, bits: u32) -> u128
     requires some { 0 < n }
     requires narrow { bits < 128 }
@@ -110,6 +111,8 @@ impl UpToOne {
         }
     }
 }
+
+// Three functions, and not one by the exponent: each multiplies other powers of the base, and has its own floor and width.
 
 // r to the 6/5, for r from 1/5 to 1; else the ends are open.
 pub fn six_fifths(r: Quotient) -> Ends
