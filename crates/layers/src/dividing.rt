@@ -6,7 +6,8 @@ ghost use Rattle.layers.specs.Layering.{scaled_lawful};
 
 use crate::divisor::Divisor;
 use crate::pile_fault::PileFault;
-use crate::scale::scale;
+use crate::portion::Portion;
+use crate::width::widened;
 use editions::edition::Edition;
 use editions::strength::Strength;
 use powers::quotient::Quotient;
@@ -42,8 +43,7 @@ impl<E: Edition> Edition for Divisor<E> {
     ghost lawful = { λ e. scaled_lawful (λ _ _. hundredths e.c e.fair.0) 2 (E.Edition.meaning e.below) (E.Edition.lawful e.below) };
 
     fn width(&self) -> u64 {
-        let w = self.below.width();
-        w.min(999700) + 300
+        widened(self.below.width())
     }
 
     fn floor(&self) -> u64 {
@@ -52,10 +52,12 @@ impl<E: Edition> Edition for Divisor<E> {
 
     fn tell(&self, brace: &BraceRecord, ratios: Ratios, kind: Kind) -> Option<Strength> {
         let told = self.below.tell(brace, ratios, kind)?;
-        let z = Quotient {
-            num: 100,
-            den: self.c,
+        let portion = Portion {
+            quotient: Quotient {
+                num: 100,
+                den: self.c,
+            },
         };
-        Some(scale(told, z))
+        Some(portion.of(told))
     }
 }
