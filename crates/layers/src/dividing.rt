@@ -1,7 +1,8 @@
 // A divisor of every strength: a layer over any edition.
-ghost use Rattle.std.specs.Prelude.{◌≡◌, MatchResult};
+ghost use Rattle.std.specs.Prelude.{◌≡◌, ◌≤◌, true, pos, MatchResult};
 ghost use Rattle.layers.specs.Layers.{divided, hundredths};
-ghost use Rattle.layers.specs.Piles.{DivisorOver, NoDivisorOver};
+ghost use Rattle.layers.specs.declared.pile_fault.PileFault.TheVariants.{Divisor as DivisorFault};
+ghost use Rattle.layers.specs.Piles.{DivisorOver, NoDivisorOver, outside};
 ghost use Rattle.layers.specs.Layering.{scaled_lawful};
 
 use crate::divisor::Divisor;
@@ -22,18 +23,25 @@ pub struct NoDivisor<E> {
     pub fault: PileFault,
 }
 
+// A divisor in hundredths, if it is from 100 to 200.
+pub(crate) fn fair_divisor(c: i64) -> Result<u64, PileFault>
+    ensures { MatchResult result (λ h. (pos h ≡ c) × (100 ≤ h) × (h ≤ 200)) (λ e. (e ≡ DivisorFault) × (outside (pos 100) c (pos 200) ≡ true)) }
+{
+    if c < 100 || c > 200 {
+        return Err(PileFault::Divisor);
+    }
+    Ok(c as u64)
+}
+
 impl<E> Divisor<E> {
     // A divisor from 100 to 200 over an edition; any other is refused, and the edition comes back.
     pub fn new(below: E, c: i64) -> Result<Divisor<E>, NoDivisor<E>>
         ensures { MatchResult result (λ d. DivisorOver d below c) (λ n. NoDivisorOver n below c) }
     {
-        if c < 100 || c > 200 {
-            return Err(NoDivisor {
-                below,
-                fault: PileFault::Divisor,
-            });
+        match fair_divisor(c) {
+            Ok(c) => Ok(Divisor { below, c }),
+            Err(fault) => Err(NoDivisor { below, fault }),
         }
-        Ok(Divisor { below, c: c as u64 })
     }
 }
 
