@@ -12,10 +12,11 @@
 --     iso_chord_factor r q k     Qf by ISO
 --     Left f z                   the chord is not spent, and z is its Qf
 --     ChordTold f a              the answer a is Qf, or none where the chord is spent
+--     axial_square s, bending_square s    P² and I² + O², times 10^8, from the parts of the ratios
 --     Moderate, Split            what the steps of the computation promise one another
 --
 -- Qf is not cut at 1. Assumes nothing.
-use Rattle.std.specs.Prelude.{◌≡◌, ℕ, ◌-◌, ◌*◌, ◌≤◌, Bool, true, false, cond, ℤ, pos, ◌+ℤ◌, ◌-ℤ◌, ◌*ℤ◌, Some, None, Option, int_lt}
+use Rattle.std.specs.Prelude.{◌≡◌, ℕ, ◌+◌, ◌-◌, ◌*◌, ◌≤◌, Bool, true, false, cond, ℤ, pos, ◌+ℤ◌, ◌-ℤ◌, ◌*ℤ◌, Some, None, Option, int_lt}
 use borrow.Author.Differences.{up, down}
 use Rattle.powers.specs.declared.quotient.Quotient.{Quotient}
 use Rattle.powers.specs.Fractions.{Fraction, number}
@@ -125,6 +126,13 @@ pub record ModerateWeights (c : Weights) : Type 0 where
   pub bending : c.bending ≤ 43
   pub axially : c.w * c.axial ≤ 2000
   pub bendingly : c.w * c.bending ≤ 2000
+
+-- P², and I² + O², each times 10^8
+abbrev pub axial_square : Signs → ℕ
+axial_square s = (s.tension + s.compression) * (s.tension + s.compression)
+
+abbrev pub bending_square : Signs → ℕ
+bending_square s = (s.closing + s.opening) * (s.closing + s.opening) + s.side * s.side
 
 pub record Split (q : Ratios) (s : Signs) : Type 0 where
   pub tension : s.tension ≡ up q.p

@@ -1,58 +1,45 @@
 // The chord's factor Qf, exact.
 ghost use Rattle.std.specs.Prelude.{◌≡◌, ◌+◌, ◌*◌, ◌≤◌};
-ghost use borrow.Author.Differences.{up, down};
 ghost use Rattle.editions.specs.Rows.{above_nine_tenths};
-ghost use Rattle.editions.specs.Chords.{Moderate, ModerateWeights, Split, ChordTold, coefficients_by_api, coefficients_of_x, api_q_f, api_chord_factor, weights_by_iso, iso_q_f};
+ghost use Rattle.editions.specs.Chords.{Moderate, ModerateWeights, Split, axial_square, bending_square, ChordTold, coefficients_by_api, coefficients_of_x, api_q_f, api_chord_factor, weights_by_iso, iso_q_f};
 
-use crate::coefficients::{Coefficients, Signed, Signs, Weights};
+use crate::coefficients::{Coefficients, Signs, Weights};
 use crate::rows::beta_above_nine_tenths;
 use powers::quotient::Quotient;
 use records::kind::Kind;
 use records::ratios::Ratios;
 use records::record::BraceRecord;
+use records::signs::{above, below};
 
-fn scaled(a: u64, b: u64) -> u64
-    requires { (a ≤ 32000) × (b ≤ 300000000) }
-    ensures is { result ≡ a * b }
-    ensures small { result ≤ 9600000000000 }
-{
-    a * b
-}
+impl Signs {
+    // P²
+    fn axial_square(self) -> u64
+        ensures is { result ≡ axial_square self }
+        ensures small { result ≤ 100000000 }
+    {
+        let p = self.tension + self.compression;
+        p * p
+    }
 
-fn square(a: u64) -> u64
-    requires { a ≤ 10000 }
-    ensures is { result ≡ a * a }
-    ensures small { result ≤ 100000000 }
-{
-    a * a
-}
-
-// A ratio where it is above 0, or 0.
-fn above(s: Signed) -> u64
-    ensures { result ≡ up s.value }
-{
-    s.value.max(0) as u64
-}
-
-// How far a ratio is below 0, or 0.
-fn below(s: Signed) -> u64
-    ensures { result ≡ down s.value }
-{
-    (-s.value).max(0) as u64
+    // I² + O²
+    fn bending_square(self) -> u64
+        ensures is { result ≡ bending_square self }
+        ensures small { result ≤ 200000000 }
+    {
+        let i = self.closing + self.opening;
+        i * i + self.side * self.side
+    }
 }
 
 fn signs(q: Ratios) -> Signs
     ensures { Split q result }
 {
-    let p = Signed { value: q.p };
-    let mi = Signed { value: q.mi };
-    let mo = Signed { value: q.mo };
     Signs {
-        tension: above(p),
-        compression: below(p),
-        closing: above(mi),
-        opening: below(mi),
-        side: above(mo) + below(mo),
+        tension: above(q.p),
+        compression: below(q.p),
+        closing: above(q.mi),
+        opening: below(q.mi),
+        side: above(q.mo) + below(q.mo),
     }
 }
 
@@ -114,18 +101,11 @@ fn with_coefficients(c: Coefficients, q: Ratios) -> Option<Quotient>
     ensures { ChordTold (api_q_f c q) result }
 {
     let s = signs(q);
-    let rise = scaled(c.rise, s.tension)
-        + scaled(c.fall, s.compression)
-        + scaled(c.close, s.opening);
-    let fall = scaled(c.rise, s.compression)
-        + scaled(c.fall, s.tension)
-        + scaled(c.close, s.closing);
-    let squares = square(s.tension + s.compression)
-        + square(s.closing + s.opening)
-        + square(s.side);
+    let rise = c.rise * s.tension + c.fall * s.compression + c.close * s.opening;
+    let fall = c.rise * s.compression + c.fall * s.tension + c.close * s.closing;
     let whole = 1000000000 * c.over;
     let gain = whole + 10000 * rise;
-    let loss = 10000 * fall + scaled(c.square, squares);
+    let loss = 10000 * fall + c.square * (s.axial_square() + s.bending_square());
     if 10 * gain < whole + 10 * loss {
         return None;
     }
@@ -182,9 +162,7 @@ fn with_weights(c: Weights, q: Ratios) -> Option<Quotient>
     ensures { ChordTold (iso_q_f c q) result }
 {
     let s = signs(q);
-    let axial = square(s.tension + s.compression);
-    let bending = square(s.closing + s.opening) + square(s.side);
-    let loss = scaled(c.w * c.axial, axial) + scaled(c.w * c.bending, bending);
+    let loss = c.w * c.axial * s.axial_square() + c.w * c.bending * s.bending_square();
     if 90000000000 < loss {
         return None;
     }

@@ -1,6 +1,5 @@
 // The coefficients of the chord's factor, and the ratios that it takes, in parts without a sign.
 ghost use Rattle.std.specs.Prelude.{◌+◌, ◌≤◌};
-ghost use Rattle.records.specs.Signs.{size};
 
 // API's coefficients in tenths of 1 / over: C1 is `rise` less `fall`, C2 `close` and C3 `square`.
 #[derive(Clone, Copy)]
@@ -29,11 +28,4 @@ pub struct Signs {
     pub opening: u64,
     pub side: u64,
     ghost within: { (tension + compression ≤ 10000) × (closing + opening ≤ 10000) × (side ≤ 10000) },
-}
-
-// A ratio within its limits.
-#[derive(Clone, Copy)]
-pub struct Signed {
-    pub value: i64,
-    ghost within: { size value ≤ 10000 },
 }
