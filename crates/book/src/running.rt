@@ -32,17 +32,14 @@ pub fn perform<E: Edition>(
 fn given_up<E: Edition>(book: Book<E>) -> Unopened<E>
     ensures { (result.edition ≡ book.edition) × (result.why ≡ Memory) }
 {
-    let Book {
-        edition,
-        tables: _tables,
-    } = book;
     Unopened {
-        edition,
+        edition: book.edition,
         why: Obstacle::Memory,
     }
 }
 
 // The whole promise: a new book by any edition, and any calls on it.
+#[tactic(auto, using(crate::proofs::Performing::ran))]
 pub fn run<E: Edition>(heap: Global, edition: E, calls: &[Call]) -> Result<Run<E>, Unopened<E>>
     ensures { MatchResult result (λ x. Ran E.meaning edition calls.now x.answers.items x.book) (Closed E.meaning edition) }
 {
