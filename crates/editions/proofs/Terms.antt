@@ -11,19 +11,9 @@ is_same e f = rw (e, f)
 pub units_le : (k a l : ℕ) → T (leb k a) → a ≤ l → units k ≤ᶠ units l
 units_le k a l t h = let i = leb→le k a t in record { across = mul-le-mul_right (2 ^ 40) (omega arith) }
 
--- Qβ, with x = 1000 D − 833 d
-module _ (D d A B x y : ℕ) (a : A ≡ D * D) (b : B ≡ d * x) where
-  pub q_beta_is : y ≡ x → (3 * (D * (1 * (1000 * D)))) * B ≡ (300 * A) * (10 * (d * y))
-  q_beta_is e = rw (a, b, e) (omega arith)
-
-  pub q_beta_least : d ≤ D → x ≤ 501 * D → 59 * B ≤ 100 * (300 * A)
-  q_beta_least h k = omega (arith, mul-le-mul h k)
-
-  pub q_beta_most : 3 * D ≤ 5 * d → 167 * D ≤ x → 100 * (300 * A) ≤ 301 * B
-  q_beta_most h k = omega (arith, mul-le-mul h k)
-
-  pub q_beta_den : 0 < d → 0 < x → 0 < B
-  q_beta_den h k = omega (arith, mul-pos h k)
+-- Qβ, with 1000 D − 833 d written in two ways
+pub q_beta_is : (D d x y : ℕ) → y ≡ x → (3 * (D * (1 * (1000 * D)))) * (d * x) ≡ (300 * (D * D)) * (10 * (d * y))
+q_beta_is D d x y e = rw e (omega arith)
 
 -- 1 + 0.2 (x / 10 D)³
 module _ (D x : ℕ) where

@@ -6,12 +6,13 @@
 --                          a larger one than one not below is not below
 --     Usable m             the width is at most 700 and the floor at least 10,000
 --     Enclosed m .. l h    l and h millionths are the ends of the strength: l is 0 or not above, h is not below
---     Tells m .. s         s is what an edition of this meaning tells
+--     Tells m .. s         s is what an edition of this meaning tells: the ends of the strength, or none where the chord is spent
 --     bare_strength, bare  the meaning of an edition that is a table of factors and one of chord factors: strength = factor times Qf
 --     Fine s               the ends of the told strength s are at most 1 part in a million and 3 millionths apart
+--     Millionths z s       s tells the ends z, which are in units, in millionths
 --
 -- Assumes nothing.
-use Rattle.std.specs.Prelude.{◌≡◌, ℕ, ◌+◌, ◌-◌, ◌*◌, ◌/◌, ◌^◌, ◌<◌, ◌≤◌, Bool, true, false}
+use Rattle.std.specs.Prelude.{◌≡◌, ℕ, ◌+◌, ◌-◌, ◌*◌, ◌/◌, ◌^◌, ◌<◌, ◌≤◌, Bool, true, false, Some, None, Option}
 use Rattle.powers.specs.declared.ends.Ends.{Ends}
 use Rattle.powers.specs.Fractions.{Fraction, Positive, number, positive_of, ◌≤ᶠ◌}
 use Rattle.powers.specs.Formulas.{Formula, constant, ◌⊗◌, NotAbove, NotBelow}
@@ -19,8 +20,6 @@ use Rattle.records.specs.declared.kind.Kind.{Kind}
 use Rattle.records.specs.declared.ratios.Ratios.{Ratios}
 use Rattle.records.specs.declared.record.BraceRecord.{BraceRecord}
 use Rattle.editions.specs.declared.strength.Strength.{Strength}
-use Rattle.editions.specs.declared.strength.Strength.TheVariants.{Spent}
-use Rattle.editions.specs.declared.strength.Strength.TheVariants.{Ends as Told}
 use Rattle.editions.specs.Chords.{ChordFactor, spent, as_fraction, api_chord_factor, iso_chord_factor}
 use Rattle.editions.specs.Api.{factor_by_api}
 use Rattle.editions.specs.Iso.{factor_by_iso}
@@ -54,9 +53,9 @@ pub record Enclosed (m : Meaning) (b : BraceRecord) (q : Ratios) (k : Kind) (low
   pub bounded : high ≤ 2000000000
   pub close : Usable m → (high - low) * 1000000 ≤ low * m.width
 
-abbrev pub Tells : Meaning → BraceRecord → Ratios → Kind → Strength → Type 0
-Tells m b q k Spent = m.spent b q k ≡ true
-Tells m b q k (Told low high) = Enclosed m b q k low high
+abbrev pub Tells : Meaning → BraceRecord → Ratios → Kind → Option Strength → Type 0
+Tells m b q k None = m.spent b q k ≡ true
+Tells m b q k (Some s) = Enclosed m b q k s.low s.high
 
 abbrev pub bare_strength : (BraceRecord → Kind → Formula) → (BraceRecord → Ratios → Kind → ChordFactor) → BraceRecord → Ratios → Kind → Formula
 bare_strength factor chord r q k = factor r k ⊗ constant (as_fraction (chord r q k))
@@ -77,11 +76,10 @@ api_meaning = bare factor_by_api api_chord_factor
 abbrev pub iso_meaning : Meaning
 iso_meaning = bare factor_by_iso iso_chord_factor
 
-abbrev pub Fine : Strength → Type 0
-Fine Spent = Unit {0}
-Fine (Told low high) = (high - low) * 1000000 ≤ low + 3000000
+abbrev pub Fine : Option Strength → Type 0
+Fine None = Unit {0}
+Fine (Some s) = (s.high - s.low) * 1000000 ≤ s.low + 3000000
 
 -- Ends in units are told in millionths, the lower one rounded down and the upper one up.
 abbrev pub Millionths : Ends → Strength → Type 0
-Millionths z Spent = ⊥
-Millionths z (Told low high) = (low ≡ z.low * 1000000 / 2 ^ 40) × (high ≡ (z.high * 1000000 + (2 ^ 40 - 1)) / 2 ^ 40)
+Millionths z s = (s.low ≡ z.low * 1000000 / 2 ^ 40) × (s.high ≡ (z.high * 1000000 + (2 ^ 40 - 1)) / 2 ^ 40)

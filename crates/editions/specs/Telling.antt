@@ -1,6 +1,6 @@
 -- From the ends of a factor to what an edition tells, once for every table of formulas.
 -- Here and not in proofs/, since an impl's law has to cite them; a reader of the promises needs none of it. Assumes nothing.
-use Rattle.std.specs.Prelude.{ℕ, ◌+◌, ◌*◌, ◌^◌, ◌≤◌}
+use Rattle.std.specs.Prelude.{ℕ, ◌+◌, ◌*◌, ◌^◌, ◌≤◌, Some}
 use Rattle.std.proofs.Common.{arith}
 use Rattle.powers.specs.declared.ends.Ends.{Ends}
 use Rattle.powers.specs.declared.quotient.Quotient.{Quotient}
@@ -11,8 +11,6 @@ use Rattle.records.specs.declared.kind.Kind.{Kind}
 use Rattle.records.specs.declared.ratios.Ratios.{Ratios}
 use Rattle.records.specs.declared.record.BraceRecord.{BraceRecord}
 use Rattle.editions.specs.declared.strength.Strength.{Strength}
-use Rattle.editions.specs.declared.strength.Strength.TheVariants.{Spent}
-use Rattle.editions.specs.declared.strength.Strength.TheVariants.{Ends as Told}
 use Rattle.editions.specs.Factors.{Factor}
 use Rattle.editions.specs.Chords.{ChordFactor, as_fraction, Left}
 use Rattle.editions.specs.Meanings.{Lawful, Tells, Millionths, Fine, millionths, bare, bare_strength}
@@ -36,19 +34,19 @@ module _ (factor : BraceRecord → Kind → Formula) (chord : BraceRecord → Ra
   }
 
   module _ (r : BraceRecord) (q : Ratios) (k : Kind) (z : Ends) (w : Quotient) (left : Left (chord r q k) w) (n : Near z (bare_strength factor chord r q k) (milli 133) (milli 1999000) 950000) where
-    pub bare_fine : (s : Strength) → Millionths z s → Fine s
-    bare_fine Spent m = absurd m
-    bare_fine (Told l h) (el, eh) = omega (arith, fine_of z.low z.high l h n.tight (omega arith) (omega arith))
+    pub bare_fine : (s : Strength) → Millionths z s → Fine (Some s)
+    bare_fine s (el, eh) = omega (arith, fine_of z.low z.high s.low s.high n.tight (omega arith) (omega arith))
 
-    pub bare_tells : (s : Strength) → Millionths z s → Tells (bare factor chord) r q k s
-    bare_tells Spent m = absurd m
-    bare_tells (Told l h) (el, eh) =
+    pub bare_tells : (s : Strength) → Millionths z s → Tells (bare factor chord) r q k (Some s)
+    bare_tells s (el, eh) =
+        let l = s.low in
+        let h = s.high in
         let o = z.ordered in
         let a = n.least in
         let b = n.most in
         let f = fine_of z.low z.high l h n.tight (omega arith) (omega arith) in
-        let firm : 100000 ≤ l = omega arith in
-        let order : l ≤ h = omega arith in
+        let firm : 100000 ≤ s.low = omega arith in
+        let order : s.low ≤ s.high = omega arith in
         record {
           unspent = left.unspent;
           under = λ p. less (bare_strength factor chord r q k) (millionths l) (units z.low) (record { across = omega arith }) n.low;

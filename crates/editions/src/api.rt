@@ -1,16 +1,11 @@
 // API RP 2A-WSD, 21st edition with Supplement 3.
-ghost use Rattle.std.specs.Prelude.{◌≡◌};
-ghost use Rattle.editions.specs.Chords.{ChordTold, api_chord_factor};
-ghost use Rattle.editions.specs.Meanings.{api_meaning, Tells, Fine};
 ghost use Rattle.editions.specs.Api.{factor_by_api};
-ghost use Rattle.editions.specs.Telling.{bare_lawful};
+ghost use Rattle.editions.specs.Chords.{api_chord_factor};
 
 use crate::api_factors::api_factor;
 use crate::chord::api_chord;
-use crate::edition::Edition;
-use crate::strength::Strength;
-use crate::told::millionths;
-use powers::ops::{exact, mul};
+use crate::code::Code;
+use powers::ends::Ends;
 use powers::quotient::Quotient;
 use records::kind::Kind;
 use records::ratios::Ratios;
@@ -19,38 +14,16 @@ use records::record::BraceRecord;
 #[derive(Clone, Copy)]
 pub struct Api {}
 
-impl Api {
-    // The chord's factor Qf, exact, or none where the chord is spent.
-    pub fn chord_factor(&self, brace: &BraceRecord, ratios: Ratios, kind: Kind) -> Option<Quotient>
-        ensures { ChordTold (api_chord_factor brace.now ratios kind) result }
-    {
+impl Code for Api {
+    ghost factors = { factor_by_api };
+
+    ghost chords = { api_chord_factor };
+
+    fn factor(&self, brace: &BraceRecord, kind: Kind) -> Ends {
+        api_factor(brace, kind)
+    }
+
+    fn chord_factor(&self, brace: &BraceRecord, ratios: Ratios, kind: Kind) -> Option<Quotient> {
         api_chord(brace, ratios, kind)
-    }
-}
-
-impl Edition for Api {
-    ghost meaning = { λ _. api_meaning };
-
-    ghost lawful = { λ e. bare_lawful factor_by_api api_chord_factor };
-
-    fn width(&self) -> u64 {
-        100
-    }
-
-    fn floor(&self) -> u64 {
-        100000
-    }
-
-    fn tell(&self, brace: &BraceRecord, ratios: Ratios, kind: Kind) -> Strength
-        ensures tells { Tells api_meaning brace.now ratios kind result }
-        ensures fine { Fine result }
-    {
-        let Some(left) = api_chord(brace, ratios, kind) else {
-            return Strength::Spent;
-        };
-        let f = api_factor(brace, kind);
-        let q = exact(left);
-        let z = mul(f, q);
-        millionths(z)
     }
 }

@@ -19,7 +19,8 @@ pub trait Edition {
     fn floor(&self) -> u64
         ensures { result ≡ (meaning self.now).floor };
 
-    fn tell(&self, brace: &BraceRecord, ratios: Ratios, kind: Kind) -> Strength
+    // The ends of a strength, or none where the chord is spent.
+    fn tell(&self, brace: &BraceRecord, ratios: Ratios, kind: Kind) -> Option<Strength>
         ensures { Tells (meaning self.now) brace.now ratios kind result };
 
     ghost lawful: { (e : Self) → Lawful (meaning e) };

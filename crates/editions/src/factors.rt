@@ -6,7 +6,7 @@ ghost use Rattle.powers.specs.Enclosures.{Near, Is, milli};
 ghost use Rattle.editions.specs.Figures.{gamma as of_gamma};
 ghost use Rattle.editions.specs.Factors.{Factor, q_beta, overlapped, factor_of_y_tension, factor_of_x_tension, factor_of_x_compression};
 
-use crate::figures::{beta, gamma, times};
+use crate::figures::{beta, gamma};
 use crate::rows::{beta_above_nine_tenths, beta_above_six_tenths};
 use powers::ends::Ends;
 use powers::ops::{add, exact, mul};
@@ -25,8 +25,8 @@ pub fn beta_factor(r: &BraceRecord) -> Quotient
         return Quotient { num: 1, den: 1 };
     }
     Quotient {
-        num: 300 * times(r.diameter, r.diameter),
-        den: times(r.brace, 1000 * r.diameter - 833 * r.brace),
+        num: 300 * (r.diameter * r.diameter),
+        den: r.brace * (1000 * r.diameter - 833 * r.brace),
     }
 }
 
@@ -42,8 +42,8 @@ pub fn overlap_value(r: &BraceRecord) -> Ends
     ensures { Near result (overlapped r.now) (milli 335) (milli 23200) 200 }
 {
     let slope = exact(Quotient {
-        num: 65 * times(r.thickness, r.fyb),
-        den: 100 * times(r.wall, r.fy),
+        num: 65 * (r.thickness * r.fyb),
+        den: 100 * (r.wall * r.fy),
     });
     let root = gamma_root(r);
     let part = mul(slope, root);
@@ -71,10 +71,10 @@ pub fn x_tension_factor(r: &BraceRecord) -> Ends
         return low;
     }
     let y = 10 * r.brace - 9 * r.diameter;
-    let area = times(r.diameter, r.wall);
-    let most = 207 * area + 85 * times(y, r.diameter);
+    let area = r.diameter * r.wall;
+    let most = 207 * area + 85 * (y * r.diameter);
     exact(Quotient {
-        num: most - 220 * times(y, r.wall),
+        num: most - 220 * (y * r.wall),
         den: 10 * area,
     })
 }

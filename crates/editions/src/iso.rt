@@ -1,16 +1,11 @@
 // ISO 19902:2007.
-ghost use Rattle.std.specs.Prelude.{◌≡◌};
-ghost use Rattle.editions.specs.Chords.{ChordTold, iso_chord_factor};
-ghost use Rattle.editions.specs.Meanings.{iso_meaning, Tells, Fine};
 ghost use Rattle.editions.specs.Iso.{factor_by_iso};
-ghost use Rattle.editions.specs.Telling.{bare_lawful};
+ghost use Rattle.editions.specs.Chords.{iso_chord_factor};
 
 use crate::chord::iso_chord;
-use crate::edition::Edition;
+use crate::code::Code;
 use crate::iso_factors::iso_factor;
-use crate::strength::Strength;
-use crate::told::millionths;
-use powers::ops::{exact, mul};
+use powers::ends::Ends;
 use powers::quotient::Quotient;
 use records::kind::Kind;
 use records::ratios::Ratios;
@@ -19,38 +14,16 @@ use records::record::BraceRecord;
 #[derive(Clone, Copy)]
 pub struct Iso2007 {}
 
-impl Iso2007 {
-    // The chord's factor Qf, exact, or none where the chord is spent.
-    pub fn chord_factor(&self, _brace: &BraceRecord, ratios: Ratios, kind: Kind) -> Option<Quotient>
-        ensures { ChordTold (iso_chord_factor _brace.now ratios kind) result }
-    {
+impl Code for Iso2007 {
+    ghost factors = { factor_by_iso };
+
+    ghost chords = { iso_chord_factor };
+
+    fn factor(&self, brace: &BraceRecord, kind: Kind) -> Ends {
+        iso_factor(brace, kind)
+    }
+
+    fn chord_factor(&self, _brace: &BraceRecord, ratios: Ratios, kind: Kind) -> Option<Quotient> {
         iso_chord(ratios, kind)
-    }
-}
-
-impl Edition for Iso2007 {
-    ghost meaning = { λ _. iso_meaning };
-
-    ghost lawful = { λ e. bare_lawful factor_by_iso iso_chord_factor };
-
-    fn width(&self) -> u64 {
-        100
-    }
-
-    fn floor(&self) -> u64 {
-        100000
-    }
-
-    fn tell(&self, brace: &BraceRecord, ratios: Ratios, kind: Kind) -> Strength
-        ensures tells { Tells iso_meaning brace.now ratios kind result }
-        ensures fine { Fine result }
-    {
-        let Some(left) = iso_chord(ratios, kind) else {
-            return Strength::Spent;
-        };
-        let f = iso_factor(brace, kind);
-        let q = exact(left);
-        let z = mul(f, q);
-        millionths(z)
     }
 }

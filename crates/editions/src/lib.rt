@@ -4,6 +4,7 @@
 pub mod api;
 mod api_factors;
 mod chord;
+pub mod code;
 mod coefficients;
 pub mod edition;
 mod factors;

@@ -1,6 +1,6 @@
-// What an edition tells of a strength: ends in millionths, or that the chord is spent.
+// The ends of a strength, in millionths.
 #[derive(Clone, Copy)]
-pub enum Strength {
-    Spent,
-    Ends { low: u64, high: u64 },
+pub struct Strength {
+    pub low: u64,
+    pub high: u64,
 }

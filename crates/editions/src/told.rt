@@ -11,7 +11,7 @@ pub fn millionths(z: Ends) -> Strength
 {
     let low = z.low as u128 * 1000000 / 1099511627776;
     let high = (z.high as u128 * 1000000 + 1099511627775) / 1099511627776;
-    Strength::Ends {
+    Strength {
         low: low as u64,
         high: high as u64,
     }

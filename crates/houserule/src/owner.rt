@@ -41,13 +41,13 @@ impl Edition for HouseRule {
     }
 
     // The chord is spent where more than half of its capacity is taken in compression.
-    fn tell(&self, _brace: &BraceRecord, ratios: Ratios, _kind: Kind) -> Strength {
+    fn tell(&self, _brace: &BraceRecord, ratios: Ratios, _kind: Kind) -> Option<Strength> {
         if ratios.p < -5000 {
-            return Strength::Spent;
+            return None;
         }
-        Strength::Ends {
+        Some(Strength {
             low: self.strength,
             high: self.strength,
-        }
+        })
     }
 }

@@ -1,6 +1,6 @@
 -- Layers over any edition: their laws, what they tell, and the multiplier of a can.
 -- Here and not in proofs/, since an impl's law has to cite them; a reader of the promises needs none of it. Assumes nothing.
-use Rattle.std.specs.Prelude.{◌≡◌, ℕ, ◌+◌, ◌-◌, ◌*◌, ◌/◌, ◌<◌, ◌≤◌, min, refl}
+use Rattle.std.specs.Prelude.{◌≡◌, ℕ, ◌+◌, ◌-◌, ◌*◌, ◌/◌, ◌<◌, ◌≤◌, min, refl, Some}
 use Rattle.std.proofs.Common.{ap, mul-le-mul_right, mul-le-mul_left, mul-pos, le_of_mul-le-mul_right, lt_of_mul-lt-mul_right, div-mul-le_self, arith}
 use Rattle.std.proofs.lemmas.Bool.{cond_both, leb-true, leb-false}
 use Rattle.powers.specs.declared.quotient.Quotient.{Quotient}
@@ -10,10 +10,8 @@ use Rattle.records.specs.declared.kind.Kind.{Kind}
 use Rattle.records.specs.declared.ratios.Ratios.{Ratios}
 use Rattle.records.specs.declared.record.BraceRecord.{BraceRecord}
 use Rattle.editions.specs.declared.strength.Strength.{Strength}
-use Rattle.editions.specs.declared.strength.Strength.TheVariants.{Spent}
-use Rattle.editions.specs.declared.strength.Strength.TheVariants.{Ends as Told}
-use Rattle.editions.specs.Meanings.{Meaning, Lawful, Enclosed, Tells, millionths}
-use Rattle.layers.specs.Layers.{scaled, Scales, Scaled}
+use Rattle.editions.specs.Meanings.{Meaning, Lawful, Tells, millionths}
+use Rattle.layers.specs.Layers.{scaled, Scaled}
 
 -- division by a positive fraction keeps the order, both ways
 over_mono : (f g s : Positive) → f.value ≤ᶠ g.value → (f ÷⁺ s).value ≤ᶠ (g ÷⁺ s).value
@@ -76,8 +74,12 @@ module _ (s : BraceRecord → Kind → Positive) (n : ℕ) (m : Meaning) (law : 
   num_of : 0 < z.num
   num_of = lt_of_mul-lt-mul_right n {m = 0} {n = z.num} (omega (arith, z.whole, least))
 
-  scaled_encloses : (l h l' h' : ℕ) → Enclosed m b q k l h → Scales z l h l' h' → Enclosed (scaled s n m) b q k l' h'
-  scaled_encloses l h l' h' e t =
+  pub scaled_tells : (t t' : Strength) → Tells m b q k (Some t) → Scaled z t t' → Tells (scaled s n m) b q k (Some t')
+  scaled_tells told scaled_told e t =
+      let l = told.low in
+      let h = told.high in
+      let l' = scaled_told.low in
+      let h' = scaled_told.high in
       let w = z.whole in
       let up = above l h l' h' z.num z.den n m.width w most least t.under t.near t.over t.close e.ordered e.positive num_of in
       let low = floored l h l' h' z.num z.den n m.width w most least t.under t.near t.over t.close e.ordered m.floor some e.floored in
@@ -98,12 +100,6 @@ module _ (s : BraceRecord → Kind → Positive) (n : ℕ) (m : Meaning) (law : 
             rw x (closer l h l' h' z.num z.den n m.width w most least t.under t.near t.over t.close e.ordered (omega arith) (omega (arith, low, u.firm))
             (e.close (record { narrow = omega arith; firm = f })));
       }
-
-  pub scaled_tells : (t t' : Strength) → Tells m b q k t → Scaled z t t' → Tells (scaled s n m) b q k t'
-  scaled_tells Spent Spent e r = e
-  scaled_tells Spent (Told l h) e r = absurd r
-  scaled_tells (Told l h) Spent e r = absurd r
-  scaled_tells (Told l h) (Told l' h') e r = scaled_encloses l h l' h' e r
 
 -- a fraction at most 1, and one beyond it
 pub within_one : (f : Fraction) (z : Quotient) → Is f z → z.num ≤ z.den → Is (f at_most number 1 1) z

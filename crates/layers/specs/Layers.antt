@@ -22,8 +22,6 @@ use Rattle.records.specs.declared.kind.Kind.{Kind}
 use Rattle.records.specs.declared.kind.Kind.TheVariants.{KAxial, YTension, YCompression, XTension, XCompression, InPlane, OutOfPlane}
 use Rattle.records.specs.declared.record.BraceRecord.{BraceRecord}
 use Rattle.editions.specs.declared.strength.Strength.{Strength}
-use Rattle.editions.specs.declared.strength.Strength.TheVariants.{Spent}
-use Rattle.editions.specs.declared.strength.Strength.TheVariants.{Ends as Told}
 use Rattle.editions.specs.Figures.{of_diameter, of_wall, beta, wall_positive}
 use Rattle.editions.specs.Rows.{above_nine_tenths}
 use Rattle.editions.specs.Meanings.{Meaning}
@@ -89,14 +87,8 @@ abbrev pub divided : (c : ℕ) → 100 ≤ c → Meaning → Meaning
 divided c h m = scaled (λ _ _. hundredths c h) 2 m
 
 -- What a layer's step does to a told strength: each end times the quotient z, the lower one rounded down and the upper one up.
-pub record Scales (z : Quotient) (low high low' high' : ℕ) : Type 0 where
-  pub under : low' * z.den ≤ low * z.num
-  pub near : low * z.num < low' * z.den + z.den
-  pub over : high * z.num ≤ high' * z.den
-  pub close : high' * z.den < high * z.num + z.den
-
-abbrev pub Scaled : Quotient → Strength → Strength → Type 0
-Scaled z Spent Spent = Unit {0}
-Scaled z Spent (Told l h) = ⊥
-Scaled z (Told l h) Spent = ⊥
-Scaled z (Told l h) (Told l' h') = Scales z l h l' h'
+pub record Scaled (z : Quotient) (s t : Strength) : Type 0 where
+  pub under : t.low * z.den ≤ s.low * z.num
+  pub near : s.low * z.num < t.low * z.den + z.den
+  pub over : s.high * z.num ≤ t.high * z.den
+  pub close : t.high * z.den < s.high * z.num + z.den

@@ -35,7 +35,7 @@ impl Edition for Bare {
         }
     }
 
-    fn tell(&self, brace: &BraceRecord, ratios: Ratios, kind: Kind) -> Strength {
+    fn tell(&self, brace: &BraceRecord, ratios: Ratios, kind: Kind) -> Option<Strength> {
         match self {
             Bare::Iso(e) => e.tell(brace, ratios, kind),
             Bare::Api(e) => e.tell(brace, ratios, kind),

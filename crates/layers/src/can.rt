@@ -103,9 +103,9 @@ impl<E: Edition> Edition for Can<E> {
         self.below.floor() / 4
     }
 
-    fn tell(&self, brace: &BraceRecord, ratios: Ratios, kind: Kind) -> Strength {
-        let told = self.below.tell(brace, ratios, kind);
+    fn tell(&self, brace: &BraceRecord, ratios: Ratios, kind: Kind) -> Option<Strength> {
+        let told = self.below.tell(brace, ratios, kind)?;
         let z = multiplier(brace, kind);
-        scale(told, z)
+        Some(scale(told, z))
     }
 }

@@ -50,12 +50,12 @@ impl<E: Edition> Edition for Divisor<E> {
         self.below.floor() / 2
     }
 
-    fn tell(&self, brace: &BraceRecord, ratios: Ratios, kind: Kind) -> Strength {
-        let told = self.below.tell(brace, ratios, kind);
+    fn tell(&self, brace: &BraceRecord, ratios: Ratios, kind: Kind) -> Option<Strength> {
+        let told = self.below.tell(brace, ratios, kind)?;
         let z = Quotient {
             num: 100,
             den: self.c,
         };
-        scale(told, z)
+        Some(scale(told, z))
     }
 }

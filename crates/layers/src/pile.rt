@@ -42,7 +42,7 @@ impl Edition for Pile {
         }
     }
 
-    fn tell(&self, brace: &BraceRecord, ratios: Ratios, kind: Kind) -> Strength {
+    fn tell(&self, brace: &BraceRecord, ratios: Ratios, kind: Kind) -> Option<Strength> {
         match self {
             Pile::Plain(e) => e.tell(brace, ratios, kind),
             Pile::Canned(e) => e.tell(brace, ratios, kind),

@@ -26,11 +26,8 @@ pub fn scale(strength: Strength, z: Quotient) -> Strength
     requires { z.num ≤ z.den }
     ensures { Scaled z strength result }
 {
-    match strength {
-        Strength::Spent => Strength::Spent,
-        Strength::Ends { low, high } => Strength::Ends {
-            low: scaled_down(low, z),
-            high: scaled_up(high, z),
-        },
+    Strength {
+        low: scaled_down(strength.low, z),
+        high: scaled_up(strength.high, z),
     }
 }

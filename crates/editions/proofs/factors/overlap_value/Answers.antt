@@ -2,12 +2,8 @@ use Rattle.std.proofs.Common.{◌*◌, ◌≤◌, refl, mul-le-mul, arith, lit�
 use Rattle.powers.specs.Fractions.{number, ◌*ᶠ◌}
 use Rattle.powers.specs.Enclosures.{milli}
 use Rattle.powers.proofs.Laws.{weaken}
-use Rattle.editions.specs.Figures.{phi, yield_positive}
-use Rattle.editions.proofs.Terms.{is_same}
+use Rattle.editions.specs.Figures.{phi}
 use Rattle.editions.proofs.factors.overlap_value.Goals as goal
-
-pub invariant_of-exact : goal.invariant_of-exact
-invariant_of-exact c = record { whole = omega (arith, c.times-2.ensures, yield_positive c.args.r.now) }
 
 pub returns : goal.returns
 returns c =
@@ -16,7 +12,7 @@ returns c =
     let w = r.walls in
     let lo : r.wall * (2 * r.fy) ≤ (4 * r.thickness) * (5 * r.fyb) = mul-le-mul (omega arith) (omega arith) in
     let hi : r.thickness * (2 * r.fyb) ≤ (2 * r.wall) * (5 * r.fy) = mul-le-mul (omega arith) (omega arith) in
-    let slope = c.exact-slope.ensures.near (number 65 100 *ᶠ phi r) (milli 65) (milli 3250) (is_same (omega (arith, c.times.ensures)) (omega (arith, c.times-2.ensures))) (omega arith) (omega arith) tt tt in
+    let slope = c.exact-slope.ensures.near (number 65 100 *ᶠ phi r) (milli 65) (milli 3250) refl (omega arith) (omega arith) tt tt in
     let part = c.mul-part.ensures.near slope c.gamma_root-root.ensures (tt, tt, tt, tt) in
     let start = c.exact-start.ensures.near (number 13 100) (milli 130) (milli 131) refl (lit≤ tt) (lit≤ tt) tt tt in
     weaken (c.add.ensures.near start part tt) (tt, tt, tt)
