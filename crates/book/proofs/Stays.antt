@@ -1,5 +1,5 @@
 -- Every step leaves every standing check binding.
-use Rattle.std.proofs.Common.{◌≡◌, ℕ, List, Some, None, Ok, Err, Option, Result, sym, refl, subst, arith}
+use Rattle.std.proofs.Common.{◌≡◌, List, Some, None, Ok, Err, Option, Result, sym, refl, subst}
 use Rattle.std.proofs.ByRecursion.{All-push, all_kept_by}
 use Rattle.std.specs.List.{AllByRecursion}
 use Rattle.editions.specs.Meanings.{Meaning, Usable}

@@ -22,6 +22,7 @@ use verdicts::verdict::Verdict;
 
 // The widest width, in parts in a million, and the least floor, in millionths, that a book is kept by.
 const WIDEST: u64 = 700;
+
 const LEAST_FLOOR: u64 = 10_000;
 
 fn usable<E: Edition>(edition: &E) -> Result<(), Unusable>
