@@ -19,15 +19,16 @@ runs_more c a (next t r) s = next t (runs_more c a r s)
 pub performed_none : {E : Type 0} (mean : E → Meaning) (b : Book E) (xs : List (Result Answer Refusal)) → xs ≡ [] → Performed mean b [] xs b
 performed_none mean b xs e = record { edition = refl; runs = rw e (end refl) }
 
-pub performed_more : {E : Type 0} (mean : E → Meaning) (first now then : Book E) (cs ds : List Call) (xs ys : List (Result Answer Refusal)) (c : Call) (a : Result Answer Refusal)
+pub performed_more : {E : Type 0} {mean : E → Meaning} {first now then : Book E} {cs ds : List Call} {xs ys : List (Result Answer Refusal)} (c : Call) (a : Result Answer Refusal)
     → Performed mean first cs xs now → Moves now then (λ l k. Step (mean now.edition) l c a k) → ds ≡ cs ++ c ∷ [] → ys ≡ xs ++ a ∷ [] → Performed mean first ds ys then
-performed_more mean first now then cs ds xs ys c a r t p q = record {
+performed_more {mean = mean} {now = now} {then = then} c a r t p q = record {
   edition = t.edition ∙ r.edition;
   runs = rw (p, q) (runs_more c a r.runs (subst (λ e. Step (mean e) (ledger_of now) c a (ledger_of then)) r.edition t.step));
 }
 
-pub ran : {E : Type 0} (mean : E → Meaning) (e : E) (first : Book E) (cs : List Call) (xs : List (Result Answer Refusal)) (after : Book E) → Opened mean e first → Performed mean first cs xs after → Ran mean e cs xs after
-ran mean e first cs xs after o p =
+pub ran : {E : Type 0} {mean : E → Meaning} {e : E} {first : Book E} {cs : List Call} {xs : List (Result Answer Refusal)} {after : Book E}
+    → Opened mean e first → Performed mean first cs xs after → Ran mean e cs xs after
+ran {mean = mean} {e} {first} {cs} {xs} {after} o p =
     let r : Runs (mean e) empty cs xs (ledger_of after) =
     subst (λ l. Runs (mean e) l cs xs (ledger_of after)) o.ledger (subst (λ d. Runs (mean d) (ledger_of first) cs xs (ledger_of after)) o.edition p.runs) in
     record { edition = p.edition ∙ o.edition; usable = o.usable; runs = r; standing = runs_stay o.usable r tt }

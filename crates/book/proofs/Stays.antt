@@ -1,5 +1,5 @@
 -- Every step leaves every standing check binding.
-use Rattle.std.proofs.Common.{◌≡◌, ℕ, List, Some, None, Ok, Err, Option, Result, sym, refl, subst, arith}
+use Rattle.std.proofs.Common.{◌≡◌, List, Some, None, Ok, Err, Option, Result, sym, refl, subst}
 use Rattle.std.proofs.ByRecursion.{All-push, all_kept_by}
 use Rattle.std.specs.List.{AllByRecursion}
 use Rattle.editions.specs.Meanings.{Meaning, Usable}
@@ -20,25 +20,21 @@ use Rattle.book.specs.Standing.{Stands, Standing}
 use Rattle.book.specs.Steps.{Step}
 use Rattle.book.specs.Runs.{Runs, end, next}
 
-same_verdict : (v w : Verdict) → ◌≡◌ {A = Option Verdict} (Some v) (Some w) → v ≡ w
-same_verdict v w e = cc
-
 -- A brace without a check.
 bare_stands : (m : Meaning) (b : Brace) → b.check ≡ None → Stands m b
-bare_stands m b e v p = let z : ◌≡◌ {A = ℕ} 0 1 = cc in absurd (omega arith)
+bare_stands m b e v p = absurd (cc)
 
 checked_stands : (m : Meaning) → Usable m → (b : Brace) (n : Force) (v : Verdict) → b.force ≡ Some n → Answered m b.figures n v → Stands m (brace_with_check v b)
-checked_stands m u b n v loaded a w p = record {
-  force = n;
-  loaded = loaded;
-  unspent = a.unspent;
-  reckoners = a.reckoners u;
-  worked = subst (λ x. Worked m b.figures n x) (same_verdict v w p) (a.worked u);
-  binds = subst (λ x. Binds m b.figures n x) (same_verdict v w p) (a.binds u);
-}
-
-same_brace : (a b : Brace) (o : Option Brace) → o ≡ Some a → o ≡ Some b → a ≡ b
-same_brace a b o p q = cc
+checked_stands m u b n v loaded a w p =
+    let same : v ≡ w = cc in
+    record {
+      force = n;
+      loaded = loaded;
+      unspent = a.unspent;
+      reckoners = a.reckoners u;
+      worked = subst (λ x. Worked m b.figures n x) same (a.worked u);
+      binds = subst (λ x. Binds m b.figures n x) same (a.binds u);
+    }
 
 module _ (m : Meaning) (u : Usable m) (l k : Ledger) (s : Standing m l) where
   -- A refusal leaves what stands.
@@ -70,7 +66,7 @@ module _ (m : Meaning) (u : Usable m) (l k : Ledger) (s : Standing m l) where
       let answered = subst (λ x. Answered m x f.force v) (sym f.carried) f.answered in
       subst (AllByRecursion (Stands m)) (sym n.braces)
       (all_amend (Stands m) (is_brace n.joint n.number) (brace_with_check v) l.braces
-      (λ x e. subst (λ y. Stands m (brace_with_check v y)) (same_brace f.held x _ here e) (checked_stands m u f.held f.force v f.loaded answered)) s)
+      (λ x e. let same : f.held ≡ x = cc in subst (λ y. Stands m (brace_with_check v y)) same (checked_stands m u f.held f.force v f.loaded answered)) s)
 
   pub stays : (c : Call) (a : Result Answer Refusal) → Step m l c a k → Standing m k
   stays (Enter j f) a (r, _, d) = does_stay _ _ (λ t. enters t) r d

@@ -30,9 +30,6 @@ x_below : (t : Bool) → number (kind_of_x t) < 6
 x_below true = lit< tt
 x_below false = lit< tt
 
-lt_next : {n : ℕ} → n < 6 → n < 7
-lt_next h = omega arith
-
 module _ (m : Meaning) (b : BraceRecord) (n : Force) where
   abbrev spent : Kind → Bool
   spent k = m.spent b n.ratios k
@@ -87,7 +84,7 @@ module _ (m : Meaning) (b : BraceRecord) (n : Force) where
       ∙ cond-true _ _ _ s.spent
   first_found OutOfPlane s =
       past_k (s.first KAxial (lit< tt))
-      ∙ past_y (λ h. s.first _ (lt_next (y_below (tension n.n))) (y_in_use b n h))
-      ∙ past_x (λ h. s.first _ (lt_next (x_below (tension n.n))) (x_in_use b n h))
+      ∙ past_y (λ h. s.first _ (let below = y_below (tension n.n) in omega arith) (y_in_use b n h))
+      ∙ past_x (λ h. s.first _ (let below = x_below (tension n.n) in omega arith) (x_in_use b n h))
       ∙ cond-false _ _ _ (s.first InPlane (lit< tt) tt)
       ∙ cond-true _ _ _ s.spent

@@ -30,7 +30,7 @@ pub enum Call {
     FindWorst,
 }
 
-#[derive(Clone, Copy)]
+#[derive(Clone, Copy, PartialEq, Eq, Debug)]
 pub enum Answer {
     Done,
     Checked(Verdict),

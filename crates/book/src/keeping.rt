@@ -20,15 +20,20 @@ use verdicts::forces::ForceFigures;
 use verdicts::reckon::verdict;
 use verdicts::verdict::Verdict;
 
+// The widest width, in parts in a million, and the least floor, in millionths, that a book is kept by.
+const WIDEST: u64 = 700;
+
+const LEAST_FLOOR: u64 = 10_000;
+
 fn usable<E: Edition>(edition: &E) -> Result<(), Unusable>
     ensures { MatchResult result (λ _. Usable (E.meaning edition.now)) (λ u. open_cause (E.meaning edition.now) ≡ Some (unusable_cause u)) }
 {
     let width = edition.width();
-    if width > 700 {
+    if width > WIDEST {
         return Err(Unusable::TooWide(width));
     }
     let floor = edition.floor();
-    if floor < 10_000 {
+    if floor < LEAST_FLOOR {
         return Err(Unusable::TooLow(floor));
     }
     Ok(())
@@ -39,8 +44,7 @@ fn tables_for<E: Edition>(heap: Global, edition: &E) -> Result<Tables, Obstacle>
     ensures { MatchResult result (λ t. (holding t ≡ empty) × Usable (E.meaning edition.now)) (Hindered (E.meaning edition.now)) }
 {
     usable(edition)?;
-    let tables = Tables::new(heap)?;
-    Ok(tables)
+    Ok(Tables::new(heap)?)
 }
 
 impl<E: Edition> Book<E> {
@@ -48,6 +52,7 @@ impl<E: Edition> Book<E> {
     pub fn new(heap: Global, edition: E) -> Result<Book<E>, Unopened<E>>
         ensures { MatchResult result (Opened E.meaning edition) (Closed E.meaning edition) }
     {
+        // Not by map and map_err: each of the two would take the edition.
         match tables_for(heap, &edition) {
             Ok(tables) => Ok(Book { edition, tables }),
             Err(why) => Err(Unopened { edition, why }),
@@ -83,8 +88,7 @@ impl<E: Edition> Book<E> {
         ensures { Finds (E.meaning self.now.edition) joint brace (ledger_of self.now) result }
     {
         let (figures, force) = self.tables.loaded(joint, brace)?;
-        let found = verdict(&self.edition, &figures, &force)?;
-        Ok(found)
+        Ok(verdict(&self.edition, &figures, &force)?)
     }
 
     pub fn check(&mut self, joint: i64, brace: i64) -> Result<Verdict, Refusal>

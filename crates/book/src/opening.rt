@@ -6,7 +6,7 @@ ghost use Rattle.book.specs.Openings.{unusable_cause};
 use std::alloc::AllocError;
 
 // A book is kept only by an edition with a width of at most 700 and a floor of at least 10,000.
-#[derive(Clone, Copy)]
+#[derive(Clone, Copy, PartialEq, Eq, Debug)]
 pub enum Unusable {
     TooWide(u64),
     TooLow(u64),
@@ -33,7 +33,7 @@ impl Unusable {
     }
 }
 
-#[derive(Clone, Copy)]
+#[derive(Clone, Copy, PartialEq, Eq, Debug)]
 pub enum Obstacle {
     Unusable(Unusable),
     Memory,

@@ -1,6 +1,5 @@
 // Performs a list of calls on a book.
 ghost use Rattle.std.specs.Prelude.{◌≡◌, MatchResult};
-ghost use Rattle.book.specs.declared.opening.Obstacle.TheVariants.{Memory};
 ghost use Rattle.book.specs.Openings.{Closed};
 ghost use Rattle.book.specs.Runs.{Performed, Ran};
 
@@ -28,27 +27,17 @@ pub fn perform<E: Edition>(
     Ok(answers)
 }
 
-// The edition of a book that had no memory for its answers.
-fn given_up<E: Edition>(book: Book<E>) -> Unopened<E>
-    ensures { (result.edition ≡ book.edition) × (result.why ≡ Memory) }
-{
-    let Book {
-        edition,
-        tables: _tables,
-    } = book;
-    Unopened {
-        edition,
-        why: Obstacle::Memory,
-    }
-}
-
 // The whole promise: a new book by any edition, and any calls on it.
+#[tactic(auto, using(crate::proofs::Performing::ran))]
 pub fn run<E: Edition>(heap: Global, edition: E, calls: &[Call]) -> Result<Run<E>, Unopened<E>>
     ensures { MatchResult result (λ x. Ran E.meaning edition calls.now x.answers.items x.book) (Closed E.meaning edition) }
 {
     let mut book = Book::new(heap, edition)?;
     let Ok(answers) = perform(heap, &mut book, calls) else {
-        return Err(given_up(book));
+        return Err(Unopened {
+            edition: book.edition,
+            why: Obstacle::Memory,
+        });
     };
     Ok(Run { book, answers })
 }

@@ -4,64 +4,60 @@
 #[cfg(test)]
 mod tests {
     use book::book::Book;
-    use book::calls::{Answer, Call};
     use book::opening::Obstacle;
-    use book::running::run;
     use editions::api::Api;
     use editions::edition::Edition;
     use houserule::rule::HouseRule;
     use layers::can::Can;
     use layers::divisor::Divisor;
     use layers::pile::Pile;
-    use ledger::entries::Worst;
     use ledger::refusal::Refusal;
-    use records::limits::{BraceFigures, ChordFigures};
+    use records::limits::{BraceFigures, ChordFigures, RatioFigures};
     use std::alloc::Global;
-    use std::process::Abort;
     use std::test::Fail;
     use verdicts::forces::ForceFigures;
-    use verdicts::verdict::{Part, Verdict};
+    use verdicts::verdict::{Ends, Part, Verdict};
 
-    fn chord() -> ChordFigures {
-        ChordFigures {
-            diameter: 400,
-            wall: 80,
-            nominal: 80,
-            fy: 350,
-        }
-    }
+    const CHORD: ChordFigures = ChordFigures {
+        diameter: 400,
+        wall: 80,
+        nominal: 80,
+        fy: 350,
+    };
 
     // A brace of an X joint at a right angle.
-    fn cross() -> BraceFigures {
-        BraceFigures {
-            brace: 320,
-            thickness: 80,
-            fyb: 350,
-            sine: 1000000,
-            gap: 50,
-            length: 500,
-            k: 0,
-            y: 0,
-            x: 1000,
-        }
-    }
+    const CROSS: BraceFigures = BraceFigures {
+        brace: 320,
+        thickness: 80,
+        fyb: 350,
+        sine: 1000000,
+        gap: 50,
+        length: 500,
+        k: 0,
+        y: 0,
+        x: 1000,
+    };
 
+    // A force on a chord without any of its own.
     fn force(n: i64, my: i64, mz: i64) -> ForceFigures {
         ForceFigures {
             n,
             my,
             mz,
-            p: 0,
-            mi: 0,
-            mo: 0,
+            ratios: RatioFigures { p: 0, mi: 0, mo: 0 },
         }
     }
 
-    // Number and value of a refusal; 0 and 0 for none.
-    fn told(r: Result<(), Refusal>) -> (u8, i64) {
-        match r {
-            Ok(()) => (0, 0),
-            Err(refusal) => (refusal.number(), refusal.value()),
+    // Number and value of a refusal.
+    fn refusal<T: Drop>(r: Result<T, Refusal>) -> Option<(u8, i64)> {
+        r.err().map(|refusal| (refusal.number(), refusal.value()))
+    }
+
+    // Number and value of what makes an edition unusable.
+    fn unusable(obstacle: Obstacle) -> Option<(u8, u64)> {
+        match obstacle {
+            Obstacle::Unusable(why) => Some((why.number(), why.value())),
+            Obstacle::Memory => None,
         }
     }
 
@@ -76,65 +72,37 @@ mod tests {
         }
     }
 
-    fn checked<E: Edition>(book: &mut Book<E>, joint: i64, brace: i64) -> &'static str {
-        match book.check(joint, brace) {
-            Ok(verdict) => word(verdict),
-            Err(_) => "refused",
-        }
-    }
-
-    fn check_refusal<E: Edition>(book: &mut Book<E>, joint: i64, brace: i64) -> (u8, i64) {
-        match book.check(joint, brace) {
-            Ok(_) => (0, 0),
-            Err(refusal) => (refusal.number(), refusal.value()),
-        }
-    }
-
-    // Joint and brace of the worst; 0 and 0 where it is refused by 13.
-    fn worst<E: Edition>(book: &Book<E>) -> (u32, u32) {
-        match book.worst() {
-            Ok(
-                Worst {
-                    joint,
-                    brace,
-                    verdict: _,
-                },
-            ) => (joint, brace),
-            Err(Refusal::Unchecked) => (0, 0),
-            Err(_) => (1000, 1000),
-        }
+    // Joint and brace of the worst.
+    fn worst<E: Edition>(book: &Book<E>) -> Result<(u32, u32), Refusal> {
+        book.worst().map(|worst| (worst.joint, worst.brace))
     }
 
     fn api(heap: Global) -> Result<Book<Pile>, Fail> {
-        let Ok(pile) = Pile::of(2, 100, 0) else {
-            return Err(Fail::new("no pile"));
-        };
-        match Book::new(heap, pile) {
-            Ok(book) => Ok(book),
-            Err(_) => Err(Fail::new("no book")),
-        }
+        let pile = Pile::of(2, 100, 0).ok().ok_or("no pile")?;
+        let book = Book::new(heap, pile).ok().ok_or("no book")?;
+        Ok(book)
     }
 
     // Joint 7 with its cross brace 1.
-    fn one_brace(rt: &impl Abort, heap: Global) -> Result<Book<Pile>, Fail> {
+    fn one_brace(heap: Global) -> Result<Book<Pile>, Fail> {
         let mut book = api(heap)?;
-        assert_eq!(rt; told(book.enter(7, chord())), (0, 0));
-        assert_eq!(rt; told(book.add(7, 1, cross())), (0, 0));
+        book.enter(7, CHORD)?;
+        book.add(7, 1, CROSS)?;
         Ok(book)
     }
 
     #[test]
     fn a_pull_of_206080_is_half_and_420000_fails(rt: HostRuntime) -> Result<(), Fail> {
-        let mut book = one_brace(&rt, rt.alloc())?;
-        assert_eq!(rt; told(book.load(7, 1, force(206080, 0, 0))), (0, 0));
-        let Ok(Verdict::Pass(ends)) = book.check(7, 1) else {
+        let mut book = one_brace(rt.alloc())?;
+        book.load(7, 1, force(206080, 0, 0))?;
+        let Verdict::Pass(ends) = book.check(7, 1)? else {
             return Err(Fail::new("not a pass"));
         };
         assert!(rt; ends.low <= 500000 && 500000 <= ends.high && ends.high - ends.low <= 2);
-        assert_eq!(rt; told(book.load(7, 1, force(420000, 0, 0))), (0, 0));
-        assert_eq!(rt; checked(&mut book, 7, 1), "FAIL");
-        assert_eq!(rt; check_refusal(&mut book, 7, 2), (5, 3));
-        assert_eq!(rt; worst(&book), (7, 1));
+        book.load(7, 1, force(420000, 0, 0))?;
+        assert_eq!(rt; word(book.check(7, 1)?), "FAIL");
+        assert_eq!(rt; refusal(book.check(7, 2)), Some((5, 3)));
+        assert_eq!(rt; worst(&book), Ok((7, 1)));
         Ok(())
     }
 
@@ -147,85 +115,89 @@ mod tests {
             nominal: 0,
             fy: 199,
         };
-        assert_eq!(rt; told(book.enter(0, none)), (3, 2));
-        assert_eq!(rt; told(book.enter(1000, chord())), (3, 2));
-        assert_eq!(rt; told(book.enter(999, none)), (7, 3));
-        assert_eq!(rt; told(book.enter(999, chord())), (0, 0));
-        assert_eq!(rt; told(book.enter(999, none)), (4, 2));
+        assert_eq!(rt; refusal(book.enter(0, none)), Some((3, 2)));
+        assert_eq!(rt; refusal(book.enter(1000, CHORD)), Some((3, 2)));
+        assert_eq!(rt; refusal(book.enter(999, none)), Some((7, 3)));
+        book.enter(999, CHORD)?;
+        assert_eq!(rt; refusal(book.enter(999, none)), Some((4, 2)));
         for joint in 1..16 {
-            assert_eq!(rt; told(book.enter(joint, chord())), (0, 0));
+            book.enter(joint, CHORD)?;
         }
-        assert_eq!(rt; told(book.enter(16, none)), (6, 16));
-        assert_eq!(rt; told(book.enter(15, none)), (4, 2));
+        assert_eq!(rt; refusal(book.enter(16, none)), Some((6, 16)));
+        assert_eq!(rt; refusal(book.enter(15, none)), Some((4, 2)));
         Ok(())
     }
 
     #[test]
     fn add_is_refused_in_order(rt: HostRuntime) -> Result<(), Fail> {
-        let mut book = one_brace(&rt, rt.alloc())?;
-        let mut none = cross();
-        none.brace = 79;
-        none.thickness = 19;
-        none.x = 999;
-        assert_eq!(rt; told(book.add(0, 0, none)), (3, 2));
-        assert_eq!(rt; told(book.add(8, 0, none)), (3, 3));
-        assert_eq!(rt; told(book.add(7, 1, none)), (4, 3));
-        assert_eq!(rt; told(book.add(8, 1, none)), (5, 2));
-        assert_eq!(rt; told(book.add(7, 2, none)), (8, 4));
+        let mut book = one_brace(rt.alloc())?;
+        let mut none = BraceFigures {
+            brace: 79,
+            thickness: 19,
+            x: 999,
+            ..CROSS
+        };
+        assert_eq!(rt; refusal(book.add(0, 0, none)), Some((3, 2)));
+        assert_eq!(rt; refusal(book.add(8, 0, none)), Some((3, 3)));
+        assert_eq!(rt; refusal(book.add(7, 1, none)), Some((4, 3)));
+        assert_eq!(rt; refusal(book.add(8, 1, none)), Some((5, 2)));
+        assert_eq!(rt; refusal(book.add(7, 2, none)), Some((8, 4)));
         none.brace = 80;
-        assert_eq!(rt; told(book.add(7, 2, none)), (8, 5));
+        assert_eq!(rt; refusal(book.add(7, 2, none)), Some((8, 5)));
         none.thickness = 20;
-        assert_eq!(rt; told(book.add(7, 2, none)), (9, 999));
+        assert_eq!(rt; refusal(book.add(7, 2, none)), Some((9, 999)));
         none.k = 1001;
-        assert_eq!(rt; told(book.add(7, 2, none)), (8, 10));
+        assert_eq!(rt; refusal(book.add(7, 2, none)), Some((8, 10)));
         none.k = 1;
-        assert_eq!(rt; told(book.add(7, 2, none)), (0, 0));
+        book.add(7, 2, none)?;
         Ok(())
     }
 
     #[test]
     fn load_withdraw_and_check_are_refused_in_order(rt: HostRuntime) -> Result<(), Fail> {
-        let mut book = one_brace(&rt, rt.alloc())?;
+        let mut book = one_brace(rt.alloc())?;
         let none = force(100000001, 100000001, 0);
-        assert_eq!(rt; told(book.load(0, 0, none)), (3, 2));
-        assert_eq!(rt; told(book.load(8, 0, none)), (3, 3));
-        assert_eq!(rt; told(book.load(8, 1, none)), (5, 2));
-        assert_eq!(rt; told(book.load(7, 2, none)), (5, 3));
-        assert_eq!(rt; told(book.load(7, 1, none)), (10, 4));
-        assert_eq!(rt; check_refusal(&mut book, 1000, 0), (3, 2));
-        assert_eq!(rt; check_refusal(&mut book, 8, 0), (3, 3));
-        assert_eq!(rt; check_refusal(&mut book, 8, 1), (5, 2));
-        assert_eq!(rt; check_refusal(&mut book, 7, 1), (11, 0));
-        assert_eq!(rt; told(book.withdraw(0)), (3, 2));
-        assert_eq!(rt; told(book.withdraw(8)), (5, 2));
-        assert_eq!(rt; worst(&book), (0, 0));
+        assert_eq!(rt; refusal(book.load(0, 0, none)), Some((3, 2)));
+        assert_eq!(rt; refusal(book.load(8, 0, none)), Some((3, 3)));
+        assert_eq!(rt; refusal(book.load(8, 1, none)), Some((5, 2)));
+        assert_eq!(rt; refusal(book.load(7, 2, none)), Some((5, 3)));
+        assert_eq!(rt; refusal(book.load(7, 1, none)), Some((10, 4)));
+        assert_eq!(rt; refusal(book.check(1000, 0)), Some((3, 2)));
+        assert_eq!(rt; refusal(book.check(8, 0)), Some((3, 3)));
+        assert_eq!(rt; refusal(book.check(8, 1)), Some((5, 2)));
+        assert_eq!(rt; refusal(book.check(7, 1)), Some((11, 0)));
+        assert_eq!(rt; refusal(book.withdraw(0)), Some((3, 2)));
+        assert_eq!(rt; refusal(book.withdraw(8)), Some((5, 2)));
+        assert_eq!(rt; worst(&book), Err(Refusal::Unchecked));
         Ok(())
     }
 
     #[test]
     fn the_first_spent_kind_in_use_is_named(rt: HostRuntime) -> Result<(), Fail> {
-        let mut book = one_brace(&rt, rt.alloc())?;
+        let mut book = one_brace(rt.alloc())?;
         let mut spent = force(0, 0, 0);
-        spent.p = -10000;
-        spent.mo = 10000;
-        assert_eq!(rt; told(book.load(7, 1, spent)), (0, 0));
-        assert_eq!(rt; check_refusal(&mut book, 7, 1), (12, 4));
+        spent.ratios.p = -10000;
+        spent.ratios.mo = 10000;
+        book.load(7, 1, spent)?;
+        assert_eq!(rt; refusal(book.check(7, 1)), Some((12, 4)));
         spent.n = -1;
-        assert_eq!(rt; told(book.load(7, 1, spent)), (0, 0));
-        assert_eq!(rt; check_refusal(&mut book, 7, 1), (12, 5));
-        assert_eq!(rt; worst(&book), (0, 0));
+        book.load(7, 1, spent)?;
+        assert_eq!(rt; refusal(book.check(7, 1)), Some((12, 5)));
+        assert_eq!(rt; worst(&book), Err(Refusal::Unchecked));
         Ok(())
     }
 
-    fn fill(rt: &impl Abort, book: &mut Book<Pile>) {
+    // All 16 joints, and eight braces at each of the first 12.
+    fn fill(book: &mut Book<Pile>) -> Result<(), Refusal> {
         for joint in 1..17 {
-            assert_eq!(rt; told(book.enter(joint, chord())), (0, 0));
+            book.enter(joint, CHORD)?;
         }
         for joint in 1..13 {
             for brace in 1..9 {
-                assert_eq!(rt; told(book.add(joint, brace, cross())), (0, 0));
+                book.add(joint, brace, CROSS)?;
             }
         }
+        Ok(())
     }
 
     #[test]
@@ -233,84 +205,94 @@ mod tests {
         rt: HostRuntime,
     ) -> Result<(), Fail> {
         let mut book = api(rt.alloc())?;
-        fill(&rt, &mut book);
-        assert_eq!(rt; told(book.enter(17, chord())), (6, 16));
-        assert_eq!(rt; told(book.add(1, 9, cross())), (6, 96));
-        assert_eq!(rt; told(book.withdraw(12)), (0, 0));
-        assert_eq!(rt; told(book.add(1, 9, cross())), (6, 8));
-        assert_eq!(rt; told(book.add(12, 1, cross())), (5, 2));
-        assert_eq!(rt; told(book.enter(12, chord())), (0, 0));
+        fill(&mut book)?;
+        assert_eq!(rt; refusal(book.enter(17, CHORD)), Some((6, 16)));
+        assert_eq!(rt; refusal(book.add(1, 9, CROSS)), Some((6, 96)));
+        book.withdraw(12)?;
+        assert_eq!(rt; refusal(book.add(1, 9, CROSS)), Some((6, 8)));
+        assert_eq!(rt; refusal(book.add(12, 1, CROSS)), Some((5, 2)));
+        book.enter(12, CHORD)?;
         for brace in 9..17 {
-            assert_eq!(rt; told(book.add(12, brace, cross())), (0, 0));
+            book.add(12, brace, CROSS)?;
         }
-        assert_eq!(rt; told(book.add(13, 1, cross())), (6, 96));
-        assert_eq!(rt; told(book.enter(17, chord())), (6, 16));
+        assert_eq!(rt; refusal(book.add(13, 1, CROSS)), Some((6, 96)));
+        assert_eq!(rt; refusal(book.enter(17, CHORD)), Some((6, 16)));
         Ok(())
     }
 
     #[test]
     fn a_load_voids_the_check_and_a_refused_one_does_not(rt: HostRuntime) -> Result<(), Fail> {
-        let mut book = one_brace(&rt, rt.alloc())?;
-        assert_eq!(rt; told(book.load(7, 1, force(206080, 0, 0))), (0, 0));
-        assert_eq!(rt; checked(&mut book, 7, 1), "PASS");
-        assert_eq!(rt; told(book.load(7, 1, force(100000001, 0, 0))), (10, 4));
-        assert_eq!(rt; worst(&book), (7, 1));
-        assert_eq!(rt; checked(&mut book, 7, 1), "PASS");
-        assert_eq!(rt; told(book.load(7, 1, force(206080, 0, 0))), (0, 0));
-        assert_eq!(rt; worst(&book), (0, 0));
-        assert_eq!(rt; checked(&mut book, 7, 1), "PASS");
-        assert_eq!(rt; told(book.withdraw(7)), (0, 0));
-        assert_eq!(rt; worst(&book), (0, 0));
+        let mut book = one_brace(rt.alloc())?;
+        book.load(7, 1, force(206080, 0, 0))?;
+        assert_eq!(rt; word(book.check(7, 1)?), "PASS");
+        assert_eq!(rt;
+            refusal(book.load(7, 1, force(100000001, 0, 0))),
+            Some((10, 4))
+        );
+        assert_eq!(rt; worst(&book), Ok((7, 1)));
+        assert_eq!(rt; word(book.check(7, 1)?), "PASS");
+        book.load(7, 1, force(206080, 0, 0))?;
+        assert_eq!(rt; worst(&book), Err(Refusal::Unchecked));
+        assert_eq!(rt; word(book.check(7, 1)?), "PASS");
+        book.withdraw(7)?;
+        assert_eq!(rt; worst(&book), Err(Refusal::Unchecked));
         Ok(())
     }
 
     // A further brace at joint 7 under a pull, checked.
-    fn pulled(rt: &impl Abort, book: &mut Book<Pile>, brace: i64, n: i64) {
-        assert_eq!(rt; told(book.add(7, brace, cross())), (0, 0));
-        assert_eq!(rt; told(book.load(7, brace, force(n, 0, 0))), (0, 0));
-        assert_ne!(rt; checked(book, 7, brace), "refused");
+    fn pulled(book: &mut Book<Pile>, brace: i64, n: i64) -> Result<Verdict, Refusal> {
+        book.add(7, brace, CROSS)?;
+        book.load(7, brace, force(n, 0, 0))?;
+        book.check(7, brace)
     }
 
     #[test]
     fn the_worst_is_the_first_of_the_highest_and_far_is_above_all(
         rt: HostRuntime,
     ) -> Result<(), Fail> {
-        let mut book = one_brace(&rt, rt.alloc())?;
-        pulled(&rt, &mut book, 2, 206080);
-        assert_eq!(rt; worst(&book), (7, 2));
-        pulled(&rt, &mut book, 3, 300000);
-        pulled(&rt, &mut book, 4, 300000);
-        assert_eq!(rt; worst(&book), (7, 3));
-        pulled(&rt, &mut book, 5, 5000000);
-        pulled(&rt, &mut book, 6, 100000000);
-        assert_eq!(rt; worst(&book), (7, 5));
-        assert_eq!(rt; checked(&mut book, 7, 5), "FAR by the axial force");
-        assert_eq!(rt; told(book.load(7, 5, force(0, 0, 0))), (0, 0));
-        assert_eq!(rt; worst(&book), (7, 6));
+        let mut book = one_brace(rt.alloc())?;
+        pulled(&mut book, 2, 206080)?;
+        assert_eq!(rt; worst(&book), Ok((7, 2)));
+        pulled(&mut book, 3, 300000)?;
+        pulled(&mut book, 4, 300000)?;
+        assert_eq!(rt; worst(&book), Ok((7, 3)));
+        pulled(&mut book, 5, 5000000)?;
+        pulled(&mut book, 6, 100000000)?;
+        assert_eq!(rt; worst(&book), Ok((7, 5)));
+        assert_eq!(rt; word(book.check(7, 5)?), "FAR by the axial force");
+        book.load(7, 5, force(0, 0, 0))?;
+        assert_eq!(rt; worst(&book), Ok((7, 6)));
         Ok(())
     }
 
     #[test]
     fn numbers_of_64_bits_are_refused_and_nothing_wraps(rt: HostRuntime) -> Result<(), Fail> {
-        let mut book = one_brace(&rt, rt.alloc())?;
-        assert_eq!(rt; told(book.enter(i64::MIN, chord())), (3, 2));
-        assert_eq!(rt; told(book.add(i64::MAX, 1, cross())), (3, 2));
-        let mut wide = chord();
-        wide.wall = i64::MAX;
-        assert_eq!(rt; told(book.enter(1, wide)), (7, 4));
+        let mut book = one_brace(rt.alloc())?;
+        assert_eq!(rt; refusal(book.enter(i64::MIN, CHORD)), Some((3, 2)));
+        assert_eq!(rt; refusal(book.add(i64::MAX, 1, CROSS)), Some((3, 2)));
+        let mut wide = ChordFigures {
+            wall: i64::MAX,
+            ..CHORD
+        };
+        assert_eq!(rt; refusal(book.enter(1, wide)), Some((7, 4)));
         wide.wall = 80;
         wide.nominal = i64::MIN;
-        assert_eq!(rt; told(book.enter(1, wide)), (7, 5));
-        let mut long = cross();
-        long.brace = i64::MIN;
-        assert_eq!(rt; told(book.add(7, 2, long)), (8, 4));
+        assert_eq!(rt; refusal(book.enter(1, wide)), Some((7, 5)));
+        let mut long = BraceFigures {
+            brace: i64::MIN,
+            ..CROSS
+        };
+        assert_eq!(rt; refusal(book.add(7, 2, long)), Some((8, 4)));
         long.brace = 320;
         long.gap = i64::MIN;
-        assert_eq!(rt; told(book.add(7, 2, long)), (8, 8));
+        assert_eq!(rt; refusal(book.add(7, 2, long)), Some((8, 8)));
         long.gap = 50;
         long.y = i64::MAX;
-        assert_eq!(rt; told(book.add(7, 2, long)), (8, 11));
-        assert_eq!(rt; told(book.load(7, 1, force(i64::MIN, 0, 0))), (10, 4));
+        assert_eq!(rt; refusal(book.add(7, 2, long)), Some((8, 11)));
+        assert_eq!(rt;
+            refusal(book.load(7, 1, force(i64::MIN, 0, 0))),
+            Some((10, 4))
+        );
         Ok(())
     }
 
@@ -319,48 +301,37 @@ mod tests {
         let cans = Can {
             below: Can { below: Api {} },
         };
-        let Err(low) = Book::new(rt.alloc(), cans) else {
-            return Err(Fail::new("opened by two cans"));
-        };
-        let Obstacle::Unusable(why) = low.why else {
-            return Err(Fail::new("no memory"));
-        };
-        assert_eq!(rt; (why.number(), why.value()), (2, 6250));
-        let Ok(three) = Divisor::new(low.edition, 150) else {
-            return Err(Fail::new("no divisor"));
-        };
-        let Err(wide) = Book::new(rt.alloc(), three) else {
-            return Err(Fail::new("opened by three layers"));
-        };
-        let Obstacle::Unusable(why) = wide.why else {
-            return Err(Fail::new("no memory"));
-        };
-        assert_eq!(rt; (why.number(), why.value()), (1, 1000));
+        let low = Book::new(rt.alloc(), cans)
+            .err()
+            .ok_or("opened by two cans")?;
+        assert_eq!(rt; unusable(low.why), Some((2, 6250)));
+        let three = Divisor::new(low.edition, 150).ok().ok_or("no divisor")?;
+        let wide = Book::new(rt.alloc(), three)
+            .err()
+            .ok_or("opened by three layers")?;
+        assert_eq!(rt; unusable(wide.why), Some((1, 1000)));
         Ok(())
     }
 
     #[test]
     fn a_strangers_edition_keeps_a_book(rt: HostRuntime) -> Result<(), Fail> {
-        let Some(rule) = HouseRule::new(10000000) else {
-            return Err(Fail::new("no rule"));
+        let rule = HouseRule::new(10000000).ok_or("no rule")?;
+        let mut book = Book::new(rt.alloc(), rule).ok().ok_or("no book")?;
+        book.enter(1, CHORD)?;
+        book.add(1, 1, CROSS)?;
+        book.load(1, 1, force(-112000, 0, 0))?;
+        let half = Ends {
+            low: 500000,
+            high: 500000,
         };
-        let Ok(mut book) = Book::new(rt.alloc(), rule) else {
-            return Err(Fail::new("no book"));
-        };
-        assert_eq!(rt; told(book.enter(1, chord())), (0, 0));
-        assert_eq!(rt; told(book.add(1, 1, cross())), (0, 0));
-        assert_eq!(rt; told(book.load(1, 1, force(-112000, 0, 0))), (0, 0));
-        let Ok(Verdict::Pass(ends)) = book.check(1, 1) else {
-            return Err(Fail::new("not a pass"));
-        };
-        assert_eq!(rt; (ends.low, ends.high), (500000, 500000));
+        assert_eq!(rt; book.check(1, 1), Ok(Verdict::Pass(half)));
         let mut spent = force(0, 0, 0);
-        spent.p = -5000;
-        assert_eq!(rt; told(book.load(1, 1, spent)), (0, 0));
-        assert_eq!(rt; checked(&mut book, 1, 1), "PASS");
-        spent.p = -5001;
-        assert_eq!(rt; told(book.load(1, 1, spent)), (0, 0));
-        assert_eq!(rt; check_refusal(&mut book, 1, 1), (12, 4));
+        spent.ratios.p = -5000;
+        book.load(1, 1, spent)?;
+        assert_eq!(rt; word(book.check(1, 1)?), "PASS");
+        spent.ratios.p = -5001;
+        book.load(1, 1, spent)?;
+        assert_eq!(rt; refusal(book.check(1, 1)), Some((12, 4)));
         Ok(())
     }
 }

@@ -1,6 +1,5 @@
 use Rattle.std.proofs.Common.{refl, w64, SFits, rules}
 use Rattle.std.proofs.lemmas.Int.{to_z-of_z}
-use Rattle.ledger.specs.Ledger.{holding}
 use Rattle.book.proofs.Making.{check_made}
 use Rattle.book.proofs.book.Book.check.Goals as goal
 
@@ -8,9 +7,4 @@ pub returns : goal.returns
 returns g c =
     let j : SFits w64 c.args.joint = search rules in
     let b : SFits w64 c.args.brace = search rules in
-    record {
-      edition = refl;
-      step =
-          check_made (g.E.Edition.meaning c.args.self.now.edition) c.args.joint c.args.brace (holding c.args.self.now.tables) (holding c.note.new.self) c.in_ok-found.found
-          (simp to_z-of_z at c.in_ok-found.ensures) (simp to_z-of_z at c.in_ok-note.ensures);
-    }
+    record { edition = refl; step = check_made (simp to_z-of_z at c.in_ok-found.ensures) (simp to_z-of_z at c.in_ok-note.ensures) }

@@ -1,28 +1,16 @@
-use Rattle.std.proofs.Common.{Ok, w64, SFits, rules}
+use Rattle.std.proofs.Common.{w64, SFits, rules}
 use Rattle.std.proofs.lemmas.Int.{to_z-of_z}
-use Rattle.ledger.specs.Ledger.{holding, Told}
-use Rattle.book.proofs.Making.{check_refused}
+use Rattle.book.proofs.Making.{check_found, check_refused}
 use Rattle.book.proofs.book.Book.find.Goals as goal
 
 pub returns : goal.returns
 returns g c =
     let j : SFits w64 c.args.joint = search rules in
     let b : SFits w64 c.args.brace = search rules in
-    let t : Told c.args.joint c.args.brace (holding c.args.self.now.tables) (Ok (c.in_ok-figures.figures, c.in_ok-figures.force)) = simp to_z-of_z at c.in_ok-figures.ensures in
-    record {
-      held = t.0;
-      stands = t.1;
-      figures = c.in_ok-figures.figures;
-      carried = t.2;
-      force = c.in_ok-figures.force;
-      loaded = t.3;
-      answered = c.in_ok-found.ensures;
-    }
+    check_found (simp to_z-of_z at c.in_ok-figures.ensures) c.in_ok-verdict.ensures
 
-pub returns-in_err-found : goal.returns-in_err-found
-returns-in_err-found g c =
+pub returns-in_err-verdict : goal.returns-in_err-verdict
+returns-in_err-verdict g c =
     let j : SFits w64 c.args.joint = search rules in
     let b : SFits w64 c.args.brace = search rules in
-    let t : Told c.args.joint c.args.brace (holding c.args.self.now.tables) (Ok (c.in_ok-figures.figures, c.in_ok-figures.force)) = simp to_z-of_z at c.in_ok-figures.ensures in
-    check_refused (g.E.Edition.meaning c.args.self.now.edition) c.args.joint c.args.brace (holding c.args.self.now.tables) c.in_ok-figures.figures c.in_ok-figures.force c.in_err-found.field-0.0
-    c.from_residual-in_err-found.result c.from_residual-in_err-found.ensures.1 t c.in_err-found.ensures
+    check_refused c.args.joint c.args.brace _ c.from_residual-in_err-verdict.result c.from_residual-in_err-verdict.ensures.1 (simp to_z-of_z at c.in_ok-figures.ensures) c.in_err-verdict.ensures
