@@ -34,7 +34,7 @@ abbrev pub card_numbers : Card → List ℤ
 card_numbers (Pile n) = n.edition ∷ n.divisor ∷ n.can ∷ []
 card_numbers (Joint j f) = j ∷ f.diameter ∷ f.wall ∷ f.nominal ∷ f.fy ∷ []
 card_numbers (Brace j b f) = j ∷ b ∷ f.brace ∷ f.thickness ∷ f.fyb ∷ f.sine ∷ f.gap ∷ f.length ∷ f.k ∷ f.y ∷ f.x ∷ []
-card_numbers (Force j b f) = j ∷ b ∷ f.n ∷ f.my ∷ f.mz ∷ f.p ∷ f.mi ∷ f.mo ∷ []
+card_numbers (Force j b f) = j ∷ b ∷ f.n ∷ f.my ∷ f.mz ∷ f.ratios.p ∷ f.ratios.mi ∷ f.ratios.mo ∷ []
 card_numbers (Check j b) = j ∷ b ∷ []
 
 abbrev pub card_text : Card → List ℕ

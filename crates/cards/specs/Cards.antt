@@ -6,7 +6,7 @@
 --                           word, or one out of place; another count of fields than the word's; a field that is no number
 --
 -- Assumes nothing.
-use Rattle.std.specs.Prelude.{ℕ, ◌+◌, Bool, cond, List, [], ◌∷◌, ◌++◌, length, ℤ, pos, Some, None, Ok, Err, Option, Result, ◌==◌, nat_lt, slice_index_or}
+use Rattle.std.specs.Prelude.{◌≡◌, ℕ, ◌+◌, Bool, cond, List, [], ◌∷◌, ◌++◌, length, ℤ, pos, Some, None, Ok, Err, Option, Result, ◌==◌, nat_lt, slice_index_or}
 use Rattle.cards.specs.declared.word.Word.{Word}
 use Rattle.cards.specs.declared.word.Word.TheVariants as word
 use Rattle.cards.specs.declared.card.NumberFault.{NumberFault}
@@ -31,6 +31,12 @@ abbrev pub numbers_in : ℕ → List (List ℕ) → Result (List ℤ) NumberFaul
 numbers_in k [] = Ok []
 numbers_in k (t ∷ ts) = then (number_in t) k (numbers_in (k + 1) ts)
 
+-- r is the number of the first of the fields ts, which is field k, and us are those behind it
+abbrev pub Numbers : ℕ → List (List ℕ) → Result ℤ NumberFault → List (List ℕ) → Type 0
+Numbers k [] r us = r ≡ Err (record { field = k })
+Numbers k (t ∷ ts) (Ok z) us = (number_in t ≡ Some z) × (us ≡ ts)
+Numbers k (t ∷ ts) (Err f) us = (number_in t ≡ None) × (f ≡ record { field = k })
+
 abbrev pub at : List ℤ → ℕ → ℤ
 at zs i = slice_index_or zs i (pos 0)
 
@@ -49,7 +55,7 @@ card_of_word word.Brace zs = Brace (at zs 0) (at zs 1) (record {
   y = at zs 9;
   x = at zs 10;
 })
-card_of_word word.Force zs = Force (at zs 0) (at zs 1) (record { n = at zs 2; my = at zs 3; mz = at zs 4; p = at zs 5; mi = at zs 6; mo = at zs 7 })
+card_of_word word.Force zs = Force (at zs 0) (at zs 1) (record { n = at zs 2; my = at zs 3; mz = at zs 4; ratios = record { p = at zs 5; mi = at zs 6; mo = at zs 7 } })
 card_of_word word.Check zs = Check (at zs 0) (at zs 1)
 
 abbrev pub by_numbers : Word → Result (List ℤ) NumberFault → Result Card CardFault

@@ -1,8 +1,7 @@
 pub mod Numbers
 pub mod Texts
 pub mod Pieces
-pub mod Lines
-pub mod Fields
+pub mod Readers
 pub mod Words
 pub mod Cards
 pub mod Faults

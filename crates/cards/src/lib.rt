@@ -2,9 +2,8 @@
 #![tactic(auto)]
 
 pub mod card;
-pub mod fields;
-pub mod line;
-pub mod lines;
 pub mod numbers;
+pub mod piece;
+pub mod pieces;
 pub mod reading;
 pub mod word;

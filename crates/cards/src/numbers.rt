@@ -40,14 +40,8 @@ fn signed_number(field: &[u8]) -> Option<i64>
 {
     match field {
         [b'-', b'0', ..] => None,
-        [b'-', rest @ ..] => match plain_number(rest) {
-            Some(n) => Some(-(n as i64)),
-            None => None,
-        },
-        _ => match plain_number(field) {
-            Some(n) => Some(n as i64),
-            None => None,
-        },
+        [b'-', rest @ ..] => Some(-(plain_number(rest)? as i64)),
+        _ => Some(plain_number(field)? as i64),
     }
 }
 

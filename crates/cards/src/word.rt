@@ -1,6 +1,5 @@
 // The words that cards begin with.
 ghost use Rattle.std.specs.Prelude.{◌≡◌};
-ghost use Rattle.std.specs.Str.{bytes_eq};
 ghost use Rattle.cards.specs.Words.{word_in, in_place, placed, count as fields_with_word};
 
 #[derive(Clone, Copy)]
@@ -12,28 +11,16 @@ pub enum Word {
     Check,
 }
 
-// The bytes are those of the text.
-fn is_text(bytes: &[u8], text: &str) -> bool
-    ensures { result ≡ bytes_eq bytes.now text.now }
-{
-    bytes == text.as_bytes()
-}
-
 fn word_of(bytes: &[u8]) -> Option<Word>
     ensures { result ≡ word_in bytes.now }
 {
-    if is_text(bytes, "PILE") {
-        Some(Word::Pile)
-    } else if is_text(bytes, "JOINT") {
-        Some(Word::Joint)
-    } else if is_text(bytes, "BRACE") {
-        Some(Word::Brace)
-    } else if is_text(bytes, "FORCE") {
-        Some(Word::Force)
-    } else if is_text(bytes, "CHECK") {
-        Some(Word::Check)
-    } else {
-        None
+    match bytes {
+        b"PILE" => Some(Word::Pile),
+        b"JOINT" => Some(Word::Joint),
+        b"BRACE" => Some(Word::Brace),
+        b"FORCE" => Some(Word::Force),
+        b"CHECK" => Some(Word::Check),
+        _ => None,
     }
 }
 
@@ -69,12 +56,5 @@ impl Word {
 pub fn placed_word(bytes: &[u8], ready: bool) -> Option<Word>
     ensures { result ≡ placed ready (word_in bytes.now) }
 {
-    let Some(word) = word_of(bytes) else {
-        return None;
-    };
-    if word.is_in_place(ready) {
-        Some(word)
-    } else {
-        None
-    }
+    word_of(bytes).filter(|word| word.is_in_place(ready))
 }

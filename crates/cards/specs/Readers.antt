@@ -1,0 +1,39 @@
+-- What a reader of pieces holds and hands out.
+--
+--     whole c           the bytes that the reader c parts
+--     left c            the pieces that are still to come
+--     seen c            how many came
+--     Begins c bs ps    the reader c parts the bytes bs; none came, and the pieces ps are still to come
+--     Came c d p        the piece p came, and led from c to d: it is the next of the pieces that are left, begins where c has come to,
+--                       and is numbered from 1 on
+--     Steps c r d       r is the next piece; or none where none is left, and then the reader stays as it was
+--
+-- Assumes nothing.
+use Rattle.std.specs.Prelude.{◌≡◌, ℕ, ◌+◌, cond, List, [], ◌∷◌, length, take, drop, Some, None, Option, nat_le}
+use Rattle.cards.specs.declared.piece.Piece.{Piece}
+use Rattle.cards.specs.declared.pieces.Pieces.{Pieces}
+use Rattle.cards.specs.Pieces.{pieces, ending}
+
+abbrev pub whole : Pieces → List ℕ
+whole c = c.bytes.now
+
+abbrev pub left : Pieces → List (List ℕ)
+left c = cond (nat_le c.at (length c.bytes.now)) (pieces c.mark (ending c.last) (drop c.at c.bytes.now)) []
+
+abbrev pub seen : Pieces → ℕ
+seen c = c.count
+
+abbrev pub Begins : Pieces → List ℕ → List (List ℕ) → Type 0
+Begins c bs ps = (whole c ≡ bs) × (left c ≡ ps) × (seen c ≡ 0)
+
+pub record Came (c d : Pieces) (p : Piece) : Type 0 where
+  pub first : left c ≡ p.bytes.now ∷ left d
+  pub begins : p.offset ≡ c.at
+  pub place : p.bytes.now ≡ take (length p.bytes.now) (drop p.offset (whole c))
+  pub number : p.number ≡ seen c + 1
+  pub count : seen d ≡ seen c + 1
+  pub same : whole d ≡ whole c
+
+abbrev pub Steps : Pieces → Option Piece → Pieces → Type 0
+Steps c None d = (left c ≡ []) × (d ≡ c)
+Steps c (Some p) d = Came c d p

@@ -1,0 +1,18 @@
+// A reader of the pieces of lent bytes.
+ghost use Rattle.std.specs.Prelude.{◌+◌, ◌≤◌, length};
+
+pub mod counting;
+pub mod parting;
+
+// The mark that parts them, and whether a last piece stands behind the last mark even if it is empty; where the next piece begins,
+// which is past the end after the last one, and how many came.
+#[derive(Drop)]
+pub struct Pieces<'a> {
+    bytes: &'a [u8],
+    mark: u8,
+    last: bool,
+    at: usize,
+    count: usize,
+    ghost within: { at ≤ length bytes.now + 1 },
+    ghost counted: { count ≤ at },
+}
