@@ -6,6 +6,8 @@ use Rattle.std.proofs.lemmas.List.{append_assoc, append-nil}
 use Rattle.std.proofs.ByRecursion.{All-push, All-append, All-weaker}
 use Rattle.std.proofs.lemmas.Bool.{cond-true, cond-false, cond_both, ltb-true, ltb-false, lt-ltb}
 use Rattle.verdicts.specs.declared.verdict.Verdict.{Verdict}
+use Rattle.ledger.specs.declared.calls.Reach.{Reach}
+use Rattle.ledger.specs.declared.calls.Reach.TheVariants.{End, Far}
 use Rattle.ledger.specs.declared.entries.Brace.{Brace}
 use Rattle.ledger.specs.declared.entries.Worst.{Worst}
 use Rattle.ledger.specs.declared.refusal.Refusal.{Refusal}
@@ -16,21 +18,21 @@ use Rattle.ledger.specs.Ledger.{find, Ledger}
 no_way : {A : Type 0} → false ≡ true → A
 no_way e = let z : ◌≡◌ {A = ℕ} 0 1 = cc in absurd (omega arith)
 
-beyond_both : (a b c : Option ℕ) → beyond a b ≡ true → beyond b c ≡ true → beyond a c ≡ true
-beyond_both None None c h k = no_way h
-beyond_both None (Some b) None h k = no_way k
-beyond_both None (Some b) (Some c) h k = refl
-beyond_both (Some a) None c h k = no_way h
-beyond_both (Some a) (Some b) None h k = no_way k
-beyond_both (Some a) (Some b) (Some c) h k = let x = ltb-true _ _ h in let y = ltb-true _ _ k in lt-ltb _ _ (omega arith)
+beyond_both : (a b c : Reach) → beyond a b ≡ true → beyond b c ≡ true → beyond a c ≡ true
+beyond_both Far Far c h k = no_way h
+beyond_both Far (End b) Far h k = no_way k
+beyond_both Far (End b) (End c) h k = refl
+beyond_both (End a) Far c h k = no_way h
+beyond_both (End a) (End b) Far h k = no_way k
+beyond_both (End a) (End b) (End c) h k = let x = ltb-true _ _ h in let y = ltb-true _ _ k in lt-ltb _ _ (omega arith)
 
-beyond_not : (a b c : Option ℕ) → beyond a b ≡ true → beyond c b ≡ false → beyond a c ≡ true
-beyond_not None None c h k = no_way h
-beyond_not None (Some b) None h k = no_way (sym k)
-beyond_not None (Some b) (Some c) h k = refl
-beyond_not (Some a) None c h k = no_way h
-beyond_not (Some a) (Some b) None h k = no_way (sym k)
-beyond_not (Some a) (Some b) (Some c) h k = let x = ltb-true _ _ h in let y = ltb-false _ _ k in lt-ltb _ _ (omega arith)
+beyond_not : (a b c : Reach) → beyond a b ≡ true → beyond c b ≡ false → beyond a c ≡ true
+beyond_not Far Far c h k = no_way h
+beyond_not Far (End b) Far h k = no_way (sym k)
+beyond_not Far (End b) (End c) h k = refl
+beyond_not (End a) Far c h k = no_way h
+beyond_not (End a) (End b) Far h k = no_way (sym k)
+beyond_not (End a) (End b) (End c) h k = let x = ltb-true _ _ h in let y = ltb-false _ _ k in lt-ltb _ _ (omega arith)
 
 abbrev BestOf : List Brace → Option Worst → Type 0
 BestOf bs None = AllByRecursion NotChecked bs

@@ -1,81 +1,51 @@
+-- What `position` finds: the place of the first that passes, or that there is none.
+use Rattle.std.proofs.Common.{◌≡◌, ℕ, suc, ◌+◌, ◌<◌, ◌≤◌, Bool, not, ltb, List, [], ◌∷◌, length, is_some, None, Option, Ok, Err, Result, is_ok, sym, refl, ap, ◌∙◌, subst, inl, inr, arith}
+use Rattle.std.specs.Option.{ok_or}
+use Rattle.std.specs.List.{position, position_or_len}
+use Rattle.std.proofs.lemmas.Bool.{cond-true, cond-false, cond_both, cases_Bool, ltb-true, ltb-false}
 use Rattle.ledger.specs.Ledger.{find}
--- Searches from the front.
-use Rattle.std.proofs.Common.{◌≡◌, ℕ, suc, ◌+◌, ◌<◌, ◌≤◌, Bool, true, false, cond, List, [], ◌∷◌, length, get_or, drop, is_some, Some, None, Option, sym, refl, ap, ◌∙◌, subst, inl, inr, arith}
-use Rattle.std.proofs.lemmas.List.{at_drop_more, at_drop_all}
-use Rattle.std.proofs.lemmas.Bool.{cond-true, cond-false, cases_Bool}
-use Rattle.ledger.specs.Places.{Found}
+use Rattle.ledger.specs.declared.refusal.Refusal.{Refusal}
+use Rattle.ledger.specs.Places.{Found, Spotted}
 
--- The place, counted from k, of the first that passes.
-abbrev pub place_from : {X : Type 0} → (X → Bool) → ℕ → List X → Option ℕ
-place_from p k [] = None
-place_from p k (x ∷ xs) = cond (p x) (Some k) (place_from p (k + 1) xs)
-
-abbrev pub place : {X : Type 0} → (X → Bool) → List X → Option ℕ
-place p xs = place_from p 0 xs
-
-module _ {X : Type 0} (p : X → Bool) (xs : List X) (i : ℕ) (so : place_from p i (drop i xs) ≡ place p xs) where
-  step : (d : X) → i < length xs → place_from p i (drop i xs) ≡ cond (p (get_or xs i d)) (Some i) (place_from p (i + 1) (drop (i + 1) xs))
-  step d h = at_drop_more (place_from p i) xs i d h
-
-  pub place_yes : (y : X) → i < length xs → y ≡ get_or xs i y → p y ≡ true → Some i ≡ place p xs
-  place_yes y h e t = sym (step y h ∙ cond-true _ _ _ (ap p (sym e) ∙ t)) ∙ so
-
-  pub place_no : (y : X) → i < length xs → y ≡ get_or xs i y → p y ≡ false → place_from p (i + 1) (drop (i + 1) xs) ≡ place p xs
-  place_no y h e t = sym (step y h ∙ cond-false _ _ _ (ap p (sym e) ∙ t)) ∙ so
-
-  pub place_end : length xs ≤ i → None ≡ place p xs
-  place_end h = sym (at_drop_all (place_from p i) xs i h) ∙ so
-
-found_from : {X : Type 0} (p : X → Bool) (xs : List X) (k i : ℕ) → place_from p k xs ≡ Some i → (j : ℕ) × (i ≡ k + j) × Found p xs j
-found_from p [] k i e = let z : ◌≡◌ {A = ℕ} 0 1 = cc in absurd (omega arith)
-found_from p (x ∷ xs) k i e =
+found_at : {X : Type 0} (p : X → Bool) (xs : List X) (i : ℕ) → i ≡ position_or_len p xs → i < length xs → Found p xs i
+found_at p [] i e h = absurd (omega arith)
+found_at p (x ∷ xs) i e h =
     elim (cases_Bool (p x)) [
       | inl t ↦
-          let here = cond-true (p x) (Some k) (place_from p (k + 1) xs) t in
-          let same : k ≡ i = cc in
-          (0, omega arith, record { within = omega arith; held = x; here = λ d. refl; there = cond-true (p x) _ _ t; writes = λ f. cond-true (p x) _ _ t; drops = cond-true (p x) _ _ t })
+          let here : i ≡ 0 = e ∙ cond-false _ _ _ (ap not t) in
+          subst (Found p (x ∷ xs)) (sym here)
+          (record { within = omega arith; held = x; here = λ d. refl; there = cond-true _ _ _ t; writes = λ f. cond-true _ _ _ t; drops = cond-true _ _ _ t })
       | inr t ↦
-          let past = cond-false (p x) (Some k) (place_from p (k + 1) xs) t in
-          let r = found_from p xs (k + 1) i (sym past ∙ e) in
-          let at : i ≡ (k + 1) + r.0 = r.1 in
-          let bound : r.0 < length xs = r.2.within in (
-            suc r.0,
-            omega arith,
-            record {
-              within = omega arith;
-              held = r.2.held;
-              here = λ d. r.2.here d;
-              there = cond-false (p x) _ _ t ∙ r.2.there;
-              writes = λ f. cond-false (p x) _ _ t ∙ ap (λ zs. x ∷ zs) (r.2.writes f);
-              drops = cond-false (p x) _ _ t ∙ ap (λ zs. x ∷ zs) r.2.drops;
-            },
-          )
+          let more : i ≡ 1 + position_or_len p xs = e ∙ cond-true _ _ _ (ap not t) in
+          let past : i ≡ suc (position_or_len p xs) = omega arith in
+          let r = found_at p xs (position_or_len p xs) refl (omega arith) in
+          let bound : position_or_len p xs < length xs = r.within in
+          subst (Found p (x ∷ xs)) (sym past)
+          (record {
+            within = omega arith;
+            held = r.held;
+            here = λ d. r.here d;
+            there = cond-false _ _ _ t ∙ r.there;
+            writes = λ f. cond-false _ _ _ t ∙ ap (λ zs. x ∷ zs) (r.writes f);
+            drops = cond-false _ _ _ t ∙ ap (λ zs. x ∷ zs) r.drops;
+          })
     ]
 
-pub found : {X : Type 0} (p : X → Bool) (xs ys : List X) (i : ℕ) → xs ≡ ys → Some i ≡ place p xs → Found p ys i
-found p xs ys i e at =
-    let r = found_from p xs 0 i (sym at) in
-    let there : i ≡ 0 + r.0 = r.1 in
-    let same : r.0 ≡ i = omega arith in
-    subst (λ zs. Found p zs i) e (subst (Found p xs) same r.2)
-
-none_from : {X : Type 0} (p : X → Bool) (xs : List X) (k : ℕ) → place_from p k xs ≡ None → find p xs ≡ None
-none_from p [] k e = refl
-none_from p (x ∷ xs) k e =
+none_at : {X : Type 0} (p : X → Bool) (xs : List X) → length xs ≤ position_or_len p xs → find p xs ≡ None
+none_at p [] h = refl
+none_at p (x ∷ xs) h =
     elim (cases_Bool (p x)) [
-      | inl t ↦
-          let here = cond-true (p x) (Some k) (place_from p (k + 1) xs) t in
-          let z : ◌≡◌ {A = ℕ} 0 1 = cc in absurd (omega arith)
+      | inl t ↦ let here : position_or_len p (x ∷ xs) ≡ 0 = cond-false _ _ _ (ap not t) in absurd (omega arith)
       | inr t ↦
-          let past = cond-false (p x) (Some k) (place_from p (k + 1) xs) t in
-          cond-false (p x) _ _ t ∙ none_from p xs (k + 1) (sym past ∙ e)
+          let past : position_or_len p (x ∷ xs) ≡ 1 + position_or_len p xs = cond-true _ _ _ (ap not t) in
+          cond-false _ _ _ t ∙ none_at p xs (omega arith)
     ]
 
-pub not_found : {X : Type 0} (p : X → Bool) (xs ys : List X) → xs ≡ ys → None ≡ place p xs → find p ys ≡ None
-not_found p xs ys e at = subst (λ zs. find p zs ≡ None) e (none_from p xs 0 (sym at))
+pub spotted : {X : Type 0} (p : X → Bool) (xs : List X) (e : Refusal) (o : Option ℕ) (r : Result ℕ Refusal) → o ≡ position p xs → r ≡ ok_or o e → Spotted p xs e r
+spotted p xs e o r at h =
+    subst (Spotted p xs e) (sym (h ∙ ap (λ z. ok_or z e) at))
+    (cond_both (ltb (position_or_len p xs) (length xs)) _ _ (λ z. Spotted p xs e (ok_or z e)) (λ t. found_at p xs _ refl (ltb-true _ _ t)) (λ t. (none_at p xs (ltb-false _ _ t), refl)))
 
-pub stands : {X : Type 0} (p : X → Bool) (xs : List X) (i : ℕ) → Found p xs i → true ≡ is_some (find p xs)
-stands p xs i f = ap is_some (sym f.there)
-
-pub stands_not : {X : Type 0} (p : X → Bool) (xs : List X) → find p xs ≡ None → false ≡ is_some (find p xs)
-stands_not p xs e = ap is_some (sym e)
+pub stands : {X : Type 0} (p : X → Bool) (xs : List X) (e : Refusal) (r : Result ℕ Refusal) → Spotted p xs e r → is_ok r ≡ is_some (find p xs)
+stands p xs e (Ok i) f = ap is_some (sym f.there)
+stands p xs e (Err x) n = ap is_some (sym n.0)

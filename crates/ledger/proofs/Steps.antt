@@ -1,19 +1,22 @@
 -- What each call's tests come to, over plain variables.
-use Rattle.std.proofs.Common.{◌≡◌, ℕ, true, false, not, leb, [], ◌∷◌, length, get_or, set, ℤ, pos, is_some, IsErrAnd, Some, None, Ok, Err, count_by, Option, Result, sym, refl, ap, ◌∙◌, arith}
+use Rattle.std.proofs.Common.{◌≡◌, ℕ, true, false, not, leb, [], ◌∷◌, length, get_or, set, ℤ, pos, is_some, IsErrAnd, Some, None, Ok, Err, count_by, Option, Result, w64, SFits, to_z, of_z, sym, refl, ap, ◌∙◌, arith}
 use Rattle.std.proofs.lemmas.Bool.{cond-true, cond-false}
+use Rattle.std.proofs.lemmas.Int.{to_z-of_z}
 use Rattle.std.specs.Option.{ok_or}
 use Rattle.records.specs.Limits.{first_figure_outside, chord_limits, brace_fault}
 use Rattle.records.specs.declared.limits.ChordFigures.{ChordFigures}
 use Rattle.records.specs.declared.limits.BraceFigures.{BraceFigures}
 use Rattle.records.specs.declared.record.Chord.{Chord}
 use Rattle.ledger.specs.declared.refusal.Refusal.{Refusal}
+use Rattle.ledger.specs.declared.refusal.Refusal.TheVariants.{Unknown}
+use Rattle.ledger.specs.declared.refusal.Place.TheVariants.{Brace as PlaceOfBrace}
 use Rattle.verdicts.specs.declared.force.Force.{Force}
 use Rattle.verdicts.specs.Forces.{force_limits}
 use Rattle.verdicts.specs.declared.forces.ForceFigures.{ForceFigures}
 use Rattle.ledger.specs.declared.entries.Brace.{Brace}
 use Rattle.ledger.specs.Causes.{Cause, because, cause}
-use Rattle.ledger.specs.Places.{Found, At}
-use Rattle.ledger.specs.Ledger.{find, Ledger, Does, is_joint, is_brace, at_joint, number_from, figure_cause, misfit_cause, first_cause, enter_at, enter_cause, brace_cause, add_at, add_cause, standing, standing_at, Amended, load_at, load_cause, force_cause, note_at, note_cause}
+use Rattle.ledger.specs.Places.{Found, Spotted, At, Stood}
+use Rattle.ledger.specs.Ledger.{find, Ledger, Does, is_joint, is_brace, at_joint, number_from, numbers_from, numbers_at, figure_cause, misfit_cause, first_cause, enter_at, enter_cause, brace_cause, add_at, add_cause, standing, standing_at, Amended, load_at, load_cause, force_cause, note_at, note_cause}
 
 -- A refusal that came through a question mark.
 pub passed : {T : Type 0} (why : Option Cause) (then : Type 0) (l : Ledger) (e : Refusal) (r : Result T Refusal) → IsErrAnd r (λ x. x ≡ e) → why ≡ Some (cause e) → Does why then l l r
@@ -24,38 +27,52 @@ module _ (j : ℤ) (f : ChordFigures) (l : Ledger) (n : ℕ) (number : number_fr
   pub enter_limits : enter_cause j f l ≡ figure_cause (first_figure_outside (chord_limits f))
   enter_limits = ap (λ o. enter_at o f l) number ∙ cond-false _ _ _ free ∙ cond-false _ _ _ room
 
-module _ (j b : ℤ) (f : BraceFigures) (l : Ledger) (n m i : ℕ) (joint : number_from j ≡ Some n) (brace : number_from b ≡ Some m) (free : is_some (find (is_brace n m) l.braces) ≡ false) (there : Found (is_joint n) l.joints i) where
-  add_past : add_cause j b f l ≡ first_cause ((leb 96 (length l.braces), because 6 (pos 96)) ∷ (leb 8 (count_by (at_joint n) l.braces), because 6 (pos 8)) ∷ []) (brace_cause (find (is_joint n) l.joints) f)
-  add_past =
-      ap (λ o. add_at o (number_from b) f l) joint
-      ∙ ap (λ o. add_at (Some n) o f l) brace
-      ∙ cond-false _ _ _ free
-      ∙ cond-false _ _ _ (ap (λ o. not (is_some o)) there.there)
+module _ (j b : ℤ) (f : BraceFigures) (l : Ledger) (n m : ℕ) (numbers : numbers_from j b ≡ Ok (n, m)) (free : is_some (find (is_brace n m) l.braces) ≡ false) where
+  add_past : add_cause j b f l ≡ first_cause ((not (is_some (find (is_joint n) l.joints)), because 5 (pos 2)) ∷ (leb 96 (length l.braces), because 6 (pos 96)) ∷ (leb 8 (count_by (at_joint n) l.braces), because 6 (pos 8)) ∷ []) (brace_cause (find (is_joint n) l.joints) f)
+  add_past = ap (λ r. add_at r f l) numbers ∙ cond-false _ _ _ free
 
-  pub add_full : leb 96 (length l.braces) ≡ true → add_cause j b f l ≡ Some (because 6 (pos 96))
-  add_full h = add_past ∙ cond-true _ _ _ h
+  pub add_nowhere : find (is_joint n) l.joints ≡ None → add_cause j b f l ≡ Some (because 5 (pos 2))
+  add_nowhere none = add_past ∙ cond-true _ _ _ (ap (λ o. not (is_some o)) none)
 
-  pub add_crowded : leb 96 (length l.braces) ≡ false → leb 8 (count_by (at_joint n) l.braces) ≡ true → add_cause j b f l ≡ Some (because 6 (pos 8))
-  add_crowded h k = add_past ∙ cond-false _ _ _ h ∙ cond-true _ _ _ k
+  module _ (i : ℕ) (there : Found (is_joint n) l.joints i) where
+    add_here : add_cause j b f l ≡ first_cause ((leb 96 (length l.braces), because 6 (pos 96)) ∷ (leb 8 (count_by (at_joint n) l.braces), because 6 (pos 8)) ∷ []) (brace_cause (find (is_joint n) l.joints) f)
+    add_here = add_past ∙ cond-false _ _ _ (ap (λ o. not (is_some o)) there.there)
 
-  pub add_limits : leb 96 (length l.braces) ≡ false → leb 8 (count_by (at_joint n) l.braces) ≡ false → (c : Chord) → c ≡ there.held.chord → add_cause j b f l ≡ misfit_cause (brace_fault c f)
-  add_limits h k c e = add_past ∙ cond-false _ _ _ h ∙ cond-false _ _ _ k ∙ ap (λ o. brace_cause o f) there.there ∙ ap (λ z. misfit_cause (brace_fault z f)) (sym e)
+    pub add_full : leb 96 (length l.braces) ≡ true → add_cause j b f l ≡ Some (because 6 (pos 96))
+    add_full h = add_here ∙ cond-true _ _ _ h
 
--- The place of the brace of these numbers.
-pub stood : (j b : ℤ) (l : Ledger) (n m i : ℕ) → number_from j ≡ Some n → number_from b ≡ Some m → is_some (find (is_joint n) l.joints) ≡ true → Found (is_brace n m) l.braces i → At j b l i
+    pub add_crowded : leb 96 (length l.braces) ≡ false → leb 8 (count_by (at_joint n) l.braces) ≡ true → add_cause j b f l ≡ Some (because 6 (pos 8))
+    add_crowded h k = add_here ∙ cond-false _ _ _ h ∙ cond-true _ _ _ k
+
+    pub add_limits : leb 96 (length l.braces) ≡ false → leb 8 (count_by (at_joint n) l.braces) ≡ false → (c : Chord) → c ≡ there.held.chord → add_cause j b f l ≡ misfit_cause (brace_fault c f)
+    add_limits h k c e = add_here ∙ cond-false _ _ _ h ∙ cond-false _ _ _ k ∙ ap (λ o. brace_cause o f) there.there ∙ ap (λ z. misfit_cause (brace_fault z f)) (sym e)
+
+-- Two numbers that are both within their limits.
+pub numbered : (j b : ℤ) (n m : ℕ) → numbers_from j b ≡ Ok (n, m) → (number_from j ≡ Some n) × (number_from b ≡ Some m)
+numbered j b n m e = go (number_from j) (number_from b) e
+  where
+    go : (x y : Option ℕ) → numbers_at x y ≡ Ok (n, m) → (x ≡ Some n) × (y ≡ Some m)
+    go None y e = cc
+    go (Some x) None e = cc
+    go (Some x) (Some y) e = let same : (x, y) ≡ (n, m) = cc in (ap (λ (t : ℕ × ℕ). Some t.0) same, ap (λ (t : ℕ × ℕ). Some t.1) same)
+
+-- The place of the brace of these numbers, at a joint that stands.
+pub stood : (j b : ℤ) (l : Ledger) (n m : ℕ) (r : Result ℕ Refusal) → numbers_from j b ≡ Ok (n, m) → is_some (find (is_joint n) l.joints) ≡ true → Spotted (is_brace n m) l.braces (Unknown PlaceOfBrace) r → Stood j b l r
 unfolding standing
-stood j b l n m i joint brace there found = record {
+stood j b l n m (Ok i) numbers there found = record {
   joint = n;
   number = m;
-  joint_numbered = joint;
-  numbered = brace;
+  joint_numbered = (numbered j b n m numbers).0;
+  numbered = (numbered j b n m numbers).1;
   found = found;
-  stands =
-      ap (λ o. standing_at o (number_from b) l) joint
-      ∙ ap (λ o. standing_at (Some n) o l) brace
-      ∙ cond-true _ _ _ there
-      ∙ ap (λ o. ok_or o (because 5 (pos 3))) found.there;
+  stands = ap (λ r. standing_at r l) numbers ∙ cond-true _ _ _ there ∙ ap (λ o. ok_or o (because 5 (pos 3))) found.there;
 }
+stood j b l n m (Err e) numbers there (none, same) =
+    ap (λ r. standing_at r l) numbers ∙ cond-true _ _ _ there ∙ ap (λ o. ok_or o (because 5 (pos 3))) none ∙ ap (λ x. Err (cause x)) (sym same)
+
+-- The same of numbers that a call passed on as they came.
+pub stood_at : (j b : ℤ) (l : Ledger) (i : ℕ) → SFits w64 j → SFits w64 b → At (to_z w64 (of_z w64 j)) (to_z w64 (of_z w64 b)) l i → At j b l i
+stood_at j b l i p q at = simp to_z-of_z at at
 
 -- A write at that place.
 pub amended : (j b : ℤ) (f : Brace → Brace) (l m : Ledger) (i : ℕ) (y z : Brace) → At j b l i → y ≡ get_or l.braces i y → z ≡ f y → m.joints ≡ l.joints → m.braces ≡ set l.braces i z → Amended j b f l m

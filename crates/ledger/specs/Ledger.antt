@@ -3,6 +3,7 @@
 --     Ledger                     joints in order of entering, braces in order of adding
 --     holding t                  what the tables t hold
 --     number_from z              z as a joint's or a brace's number, if it is from 1 to 999
+--     numbers_from j b           both, of a joint and of a brace, or the first that is none
 --     find p xs                  the first of xs that passes p
 --     amend p f xs               the first that passes is changed by f
 --     without p xs               the first that passes is taken out
@@ -34,7 +35,8 @@ use Rattle.verdicts.specs.declared.verdict.Verdict.{Verdict}
 use Rattle.ledger.specs.declared.entries.Joint.{Joint}
 use Rattle.ledger.specs.declared.entries.Brace.{Brace}
 use Rattle.ledger.specs.declared.refusal.Refusal.{Refusal}
-use Rattle.ledger.specs.declared.refusal.Refusal.TheVariants.{Outside, NoBrace}
+use Rattle.ledger.specs.declared.refusal.Refusal.TheVariants.{NumberOutside, Outside, NoBrace}
+use Rattle.ledger.specs.declared.refusal.Place.TheVariants.{Joint as PlaceOfJoint, Brace as PlaceOfBrace}
 use Rattle.ledger.specs.declared.tables.Tables.{Tables}
 use Rattle.ledger.specs.Causes.{Cause, because, cause}
 
@@ -64,6 +66,14 @@ without p (x ∷ xs) = cond (p x) xs (x ∷ without p xs)
 -- ---- numbers
 abbrev pub number_from : ℤ → Option ℕ
 number_from z = cond (int_le (pos 1) z && int_le z (pos 999)) (Some (unsigned_abs z)) None
+
+abbrev pub numbers_at : Option ℕ → Option ℕ → Result (ℕ × ℕ) Refusal
+numbers_at None m = Err (NumberOutside PlaceOfJoint)
+numbers_at (Some n) None = Err (NumberOutside PlaceOfBrace)
+numbers_at (Some n) (Some m) = Ok (n, m)
+
+abbrev pub numbers_from : ℤ → ℤ → Result (ℕ × ℕ) Refusal
+numbers_from j b = numbers_at (number_from j) (number_from b)
 
 abbrev pub is_joint : ℕ → Joint → Bool
 is_joint n j = j.number == n
@@ -128,10 +138,9 @@ abbrev pub brace_cause : Option Joint → BraceFigures → Option Cause
 brace_cause None f = None
 brace_cause (Some j) f = misfit_cause (brace_fault j.chord f)
 
-abbrev pub add_at : Option ℕ → Option ℕ → BraceFigures → Ledger → Option Cause
-add_at None m f l = Some (because 3 (pos 2))
-add_at (Some n) None f l = Some (because 3 (pos 3))
-add_at (Some n) (Some m) f l =
+abbrev pub add_at : Result (ℕ × ℕ) Refusal → BraceFigures → Ledger → Option Cause
+add_at (Err e) f l = Some (cause e)
+add_at (Ok (n, m)) f l =
     first_cause (
     (is_some (find (is_brace n m) l.braces), because 4 (pos 3)) ∷
     (not (is_some (find (is_joint n) l.joints)), because 5 (pos 2)) ∷
@@ -140,7 +149,7 @@ add_at (Some n) (Some m) f l =
     (brace_cause (find (is_joint n) l.joints) f)
 
 abbrev pub add_cause : ℤ → ℤ → BraceFigures → Ledger → Option Cause
-add_cause j b f l = add_at (number_from j) (number_from b) f l
+add_cause j b f l = add_at (numbers_from j b) f l
 
 -- The brace stands last, at the chord of its joint, with no force and no check.
 pub record Added (j b : ℤ) (f : BraceFigures) (l m : Ledger) : Type 0 where
@@ -159,14 +168,13 @@ abbrev pub Adds : ℤ → ℤ → BraceFigures → Ledger → Ledger → Result 
 Adds j b f l m r = Does (add_cause j b f l) (Added j b f l m) l m r
 
 -- ---- a brace that a call speaks of
-abbrev pub standing_at : Option ℕ → Option ℕ → Ledger → Result Brace Cause
-standing_at None m l = Err (because 3 (pos 2))
-standing_at (Some n) None l = Err (because 3 (pos 3))
-standing_at (Some n) (Some m) l =
+abbrev pub standing_at : Result (ℕ × ℕ) Refusal → Ledger → Result Brace Cause
+standing_at (Err e) l = Err (cause e)
+standing_at (Ok (n, m)) l =
     cond (is_some (find (is_joint n) l.joints)) (ok_or (find (is_brace n m) l.braces) (because 5 (pos 3))) (Err (because 5 (pos 2)))
 
 unfoldable pub standing : ℤ → ℤ → Ledger → Result Brace Cause
-standing j b l = standing_at (number_from j) (number_from b) l
+standing j b l = standing_at (numbers_from j b) l
 
 -- Only the first brace with these numbers is changed.
 pub record Amended (j b : ℤ) (f : Brace → Brace) (l m : Ledger) : Type 0 where

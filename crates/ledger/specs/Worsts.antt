@@ -1,6 +1,7 @@
 -- The worst brace.
 --
---     reach v           the upper end of the verdict v; none for FAR, which reaches beyond every end
+--     reach v           the upper end of the verdict v; beyond every end for FAR
+--     beyond a b        a is the higher reach
 --     over v w          v reaches higher than w
 --     Under, NotOver    a check that stands at a brace is under a verdict, or not over it
 --     Highest bs w      w names the first brace of those whose checks reach highest
@@ -10,10 +11,12 @@
 --     Names l r         r is the worst brace of the ledger l, or that refusal
 --
 -- Assumes nothing.
-use Rattle.std.specs.Prelude.{◌≡◌, ℕ, Bool, true, false, cond, List, ◌∷◌, ◌++◌, is_some, Some, None, Ok, Err, Option, Result, nat_lt}
+use Rattle.std.specs.Prelude.{◌≡◌, Bool, true, false, cond, List, ◌∷◌, ◌++◌, is_some, Some, None, Ok, Err, Option, Result, nat_lt}
 use Rattle.std.specs.List.{AllByRecursion}
 use Rattle.verdicts.specs.declared.verdict.Verdict.{Verdict}
 use Rattle.verdicts.specs.declared.verdict.Verdict.TheVariants.{Pass, Fail, Near, Far}
+use Rattle.ledger.specs.declared.calls.Reach.{Reach}
+use Rattle.ledger.specs.declared.calls.Reach.TheVariants.{End, Far as Beyond}
 use Rattle.ledger.specs.declared.entries.Brace.{Brace}
 use Rattle.ledger.specs.declared.entries.Worst.{Worst}
 use Rattle.ledger.specs.Causes.{Cause, cause}
@@ -21,17 +24,17 @@ use Rattle.ledger.specs.declared.refusal.Refusal.{Refusal}
 use Rattle.ledger.specs.declared.refusal.Refusal.TheVariants.{Unchecked}
 use Rattle.ledger.specs.Ledger.{Ledger, find, DoesWith}
 
-abbrev pub reach : Verdict → Option ℕ
-reach (Pass e) = Some e.high
-reach (Fail e) = Some e.high
-reach (Near e) = Some e.high
-reach (Far p) = None
+abbrev pub reach : Verdict → Reach
+reach (Pass e) = End e.high
+reach (Fail e) = End e.high
+reach (Near e) = End e.high
+reach (Far p) = Beyond
 
-abbrev pub beyond : Option ℕ → Option ℕ → Bool
-beyond None None = false
-beyond None (Some b) = true
-beyond (Some a) None = false
-beyond (Some a) (Some b) = nat_lt b a
+abbrev pub beyond : Reach → Reach → Bool
+beyond Beyond Beyond = false
+beyond Beyond (End b) = true
+beyond (End a) Beyond = false
+beyond (End a) (End b) = nat_lt b a
 
 abbrev pub over : Verdict → Verdict → Bool
 over v w = beyond (reach v) (reach w)

@@ -1,8 +1,11 @@
 // The calls on the tables, each as the ledger has it.
-ghost use Rattle.std.specs.Prelude.{◌≡◌, ◌≤◌, is_some, IfOk, None, vec_len, vec_capacity, count_by, filter, MatchOption};
-ghost use Rattle.ledger.specs.Ledger.{empty, holding, find, number_from, is_joint, is_brace, at_joint, elsewhere, Does, enter_cause, Entered, add_cause, Added, load_cause, Loaded, Told, note_cause, Noted, withdraw_cause, Withdrawn};
-ghost use Rattle.ledger.specs.Places.{Found, Stood};
-ghost use Rattle.ledger.specs.Worsts.{reach, over, with_brace, WorstOf, Names};
+ghost use Rattle.std.specs.Prelude.{◌≡◌, is_some, is_ok, IfOk, count_by};
+ghost use Rattle.std.specs.Option.{ok_or};
+ghost use Rattle.ledger.specs.Ledger.{empty, holding, find, number_from, numbers_from, is_joint, is_brace, at_joint, Does, enter_cause, Entered, add_cause, Added, load_cause, Loaded, Told, note_cause, Noted, withdraw_cause, Withdrawn};
+ghost use Rattle.ledger.specs.declared.refusal.Refusal.TheVariants.{NumberOutside, Unknown};
+ghost use Rattle.ledger.specs.declared.refusal.Place.TheVariants.{Joint as PlaceOfJoint, Brace as PlaceOfBrace};
+ghost use Rattle.ledger.specs.Places.{Spotted, Stood};
+ghost use Rattle.ledger.specs.Worsts.{reach, with_brace, WorstOf, Names};
 
 use crate::entries::{Brace, Joint, Worst};
 use crate::refusal::{Place, Refusal, Room};
@@ -14,36 +17,39 @@ use verdicts::force::Force;
 use verdicts::forces::ForceFigures;
 use verdicts::verdict::Verdict;
 
-fn number_of(n: i64) -> Option<u32>
-    ensures { result ≡ number_from n }
+// The number of a joint or a brace.
+fn number_of(n: i64, place: Place) -> Result<u32, Refusal>
+    ensures { result ≡ ok_or (number_from n) (NumberOutside place) }
 {
-    if 1 <= n && n <= 999 {
-        Some(n as u32)
-    } else {
-        None
+    match n {
+        1..=999 => Ok(n as u32),
+        _ => Err(Refusal::NumberOutside(place)),
     }
 }
 
-// The upper end of a verdict; FAR has none.
-fn upper_end(verdict: Verdict) -> Option<u64>
+// The numbers of a brace: its joint's, and its own.
+fn numbers_of(joint: i64, brace: i64) -> Result<(u32, u32), Refusal>
+    ensures { result ≡ numbers_from joint brace }
+{
+    Ok((
+        number_of(joint, Place::Joint)?,
+        number_of(brace, Place::Brace)?,
+    ))
+}
+
+// How far up a verdict reaches: FAR beyond every end.
+#[derive(Clone, Copy, PartialEq, Eq, PartialOrd, Ord)]
+enum Reach {
+    End(u64),
+    Far,
+}
+
+fn reach_of(verdict: Verdict) -> Reach
     ensures { result ≡ reach verdict }
 {
     match verdict {
-        Verdict::Pass(ends) => Some(ends.high),
-        Verdict::Fail(ends) => Some(ends.high),
-        Verdict::Near(ends) => Some(ends.high),
-        Verdict::Far(_) => None,
-    }
-}
-
-// Whether a verdict reaches higher than another.
-fn is_over(verdict: Verdict, other: Verdict) -> bool
-    ensures { result ≡ over verdict other }
-{
-    match (upper_end(verdict), upper_end(other)) {
-        (Some(a), Some(b)) => b < a,
-        (None, Some(_)) => true,
-        (_, None) => false,
+        Verdict::Pass(ends) | Verdict::Fail(ends) | Verdict::Near(ends) => Reach::End(ends.high),
+        Verdict::Far(_) => Reach::Far,
     }
 }
 
@@ -51,36 +57,15 @@ fn is_over(verdict: Verdict, other: Verdict) -> bool
 fn keep(best: Option<Worst>, brace: Brace) -> Option<Worst>
     ensures { result ≡ with_brace best brace }
 {
-    let Some(verdict) = brace.check else {
-        return best;
-    };
-    if let Some(worst) = best {
-        if !is_over(verdict, worst.verdict) {
-            return best;
-        }
+    match (best, brace.check) {
+        (_, None) => best,
+        (Some(worst), Some(verdict)) if reach_of(verdict) <= reach_of(worst.verdict) => best,
+        (_, Some(verdict)) => Some(Worst {
+            joint: brace.joint,
+            brace: brace.number,
+            verdict,
+        }),
     }
-    Some(Worst {
-        joint: brace.joint,
-        brace: brace.number,
-        verdict,
-    })
-}
-
-// Keeps the braces of the other joints, in their order.
-fn clear_joint(braces: &mut Vec<Brace>, joint: u32)
-    ensures items { braces.new.items ≡ filter (elsewhere joint) braces.old.items }
-    ensures len { vec_len braces.new ≤ vec_len braces.old }
-    ensures cap { vec_capacity braces.new ≡ vec_capacity braces.old }
-{
-    let mut to = 0;
-    for i in 0..braces.len() {
-        let brace = braces[i];
-        if brace.joint != joint {
-            braces[to] = brace;
-            to += 1;
-        }
-    }
-    braces.truncate(to);
 }
 
 impl Tables {
@@ -92,37 +77,31 @@ impl Tables {
         Ok(Tables { joints, braces })
     }
 
-    fn joint_at(&self, number: u32) -> Option<usize>
-        ensures stands { is_some result ≡ is_some (find (is_joint number) (holding self.now).joints) }
-        ensures found { MatchOption result (find (is_joint number) (holding self.now).joints ≡ None) (Found (is_joint number) (holding self.now).joints) }
+    fn joint_at(&self, number: u32) -> Result<usize, Refusal>
+        ensures stands { is_ok result ≡ is_some (find (is_joint number) (holding self.now).joints) }
+        ensures found { Spotted (is_joint number) (holding self.now).joints (Unknown PlaceOfJoint) result }
     {
-        for (i, joint) in self.joints.iter().enumerate() {
-            if joint.number == number {
-                return Some(i);
-            }
-        }
-        None
+        self.joints
+            .iter()
+            .position(|joint| joint.number == number)
+            .ok_or(Refusal::Unknown(Place::Joint))
     }
 
-    fn brace_at(&self, joint: u32, number: u32) -> Option<usize>
-        ensures stands { is_some result ≡ is_some (find (is_brace joint number) (holding self.now).braces) }
-        ensures found { MatchOption result (find (is_brace joint number) (holding self.now).braces ≡ None) (Found (is_brace joint number) (holding self.now).braces) }
+    fn brace_at(&self, joint: u32, number: u32) -> Result<usize, Refusal>
+        ensures stands { is_ok result ≡ is_some (find (is_brace joint number) (holding self.now).braces) }
+        ensures found { Spotted (is_brace joint number) (holding self.now).braces (Unknown PlaceOfBrace) result }
     {
-        for (i, brace) in self.braces.iter().enumerate() {
-            if brace.joint == joint && brace.number == number {
-                return Some(i);
-            }
-        }
-        None
+        self.braces
+            .iter()
+            .position(|brace| brace.joint == joint && brace.number == number)
+            .ok_or(Refusal::Unknown(Place::Brace))
     }
 
     pub fn enter(&mut self, joint: i64, figures: ChordFigures) -> Result<(), Refusal>
         ensures { Does (enter_cause joint figures (holding self.old)) (Entered joint figures (holding self.old) (holding self.new)) (holding self.old) (holding self.new) result }
     {
-        let Some(number) = number_of(joint) else {
-            return Err(Refusal::NumberOutside(Place::Joint));
-        };
-        if self.joint_at(number).is_some() {
+        let number = number_of(joint, Place::Joint)?;
+        if self.joint_at(number).is_ok() {
             return Err(Refusal::NumberInUse(Place::Joint));
         }
         if self.joints.len() >= 16 {
@@ -137,30 +116,20 @@ impl Tables {
     fn count_at(&self, joint: u32) -> usize
         ensures { result ≡ count_by (at_joint joint) (holding self.now).braces }
     {
-        let mut n = 0;
-        for brace in self.braces.iter() {
-            if brace.joint == joint {
-                n += 1;
-            }
-        }
-        n
+        self.braces
+            .iter()
+            .filter(|brace| brace.joint == joint)
+            .count()
     }
 
     pub fn add(&mut self, joint: i64, brace: i64, figures: BraceFigures) -> Result<(), Refusal>
         ensures { Does (add_cause joint brace figures (holding self.old)) (Added joint brace figures (holding self.old) (holding self.new)) (holding self.old) (holding self.new) result }
     {
-        let Some(n) = number_of(joint) else {
-            return Err(Refusal::NumberOutside(Place::Joint));
-        };
-        let Some(number) = number_of(brace) else {
-            return Err(Refusal::NumberOutside(Place::Brace));
-        };
-        if self.brace_at(n, number).is_some() {
+        let (n, number) = numbers_of(joint, brace)?;
+        if self.brace_at(n, number).is_ok() {
             return Err(Refusal::NumberInUse(Place::Brace));
         }
-        let Some(i) = self.joint_at(n) else {
-            return Err(Refusal::Unknown(Place::Joint));
-        };
+        let i = self.joint_at(n)?;
         if self.braces.len() >= 96 {
             return Err(Refusal::Full(Room::Braces));
         }
@@ -179,22 +148,13 @@ impl Tables {
     }
 
     // The place of a brace that a call speaks of.
+    #[tactic(auto, unfolding(crate::specs::Ledger::standing))]
     fn standing(&self, joint: i64, brace: i64) -> Result<usize, Refusal>
         ensures { Stood joint brace (holding self.now) result }
     {
-        let Some(n) = number_of(joint) else {
-            return Err(Refusal::NumberOutside(Place::Joint));
-        };
-        let Some(m) = number_of(brace) else {
-            return Err(Refusal::NumberOutside(Place::Brace));
-        };
-        if self.joint_at(n).is_none() {
-            return Err(Refusal::Unknown(Place::Joint));
-        }
-        let Some(i) = self.brace_at(n, m) else {
-            return Err(Refusal::Unknown(Place::Brace));
-        };
-        Ok(i)
+        let (n, m) = numbers_of(joint, brace)?;
+        let _ = self.joint_at(n)?;
+        self.brace_at(n, m)
     }
 
     pub fn load(&mut self, joint: i64, brace: i64, figures: ForceFigures) -> Result<(), Refusal>
@@ -213,9 +173,7 @@ impl Tables {
     {
         let i = self.standing(joint, brace)?;
         let held = self.braces[i];
-        let Some(force) = held.force else {
-            return Err(Refusal::NotLoaded);
-        };
+        let force = held.force.ok_or(Refusal::NotLoaded)?;
         Ok((held.figures, force))
     }
 
@@ -235,18 +193,14 @@ impl Tables {
     pub fn withdraw(&mut self, joint: i64) -> Result<(), Refusal>
         ensures { Does (withdraw_cause joint (holding self.old)) (Withdrawn joint (holding self.old) (holding self.new)) (holding self.old) (holding self.new) result }
     {
-        let Some(n) = number_of(joint) else {
-            return Err(Refusal::NumberOutside(Place::Joint));
-        };
-        let Some(i) = self.joint_at(n) else {
-            return Err(Refusal::Unknown(Place::Joint));
-        };
+        let n = number_of(joint, Place::Joint)?;
+        let i = self.joint_at(n)?;
         let _ = self.joints.remove(i);
-        clear_joint(&mut self.braces, n);
+        self.braces.retain(|brace| brace.joint != n);
         Ok(())
     }
 
-    // An indexed walk in order of adding, keeping the first that reaches highest.
+    // In order of adding, keeping the first that reaches highest. An indexed `for` and no fold: this project's rule is that the walk over the braces shows its places.
     pub fn worst(&self) -> Result<Worst, Refusal>
         ensures worst { WorstOf (holding self.now).braces result }
         ensures names { Names (holding self.now) result }

@@ -12,11 +12,9 @@ impl Brace {
         ensures { result ≡ brace_with_force force self }
     {
         Brace {
-            joint: self.joint,
-            number: self.number,
-            figures: self.figures,
             force: Some(force),
             check: None,
+            ..self
         }
     }
 
@@ -24,11 +22,8 @@ impl Brace {
         ensures { result ≡ brace_with_check verdict self }
     {
         Brace {
-            joint: self.joint,
-            number: self.number,
-            figures: self.figures,
-            force: self.force,
             check: Some(verdict),
+            ..self
         }
     }
 }

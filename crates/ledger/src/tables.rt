@@ -3,6 +3,7 @@ ghost use Rattle.std.specs.Prelude.{◌≤◌, vec_len, vec_capacity};
 
 use crate::entries::{Brace, Joint};
 
+// No `impl Model`: a clause on two tables would then compare only what they hold, and the book's promise that a want of memory leaves it as it was would say less.
 #[derive(Drop)]
 pub struct Tables {
     pub(crate) joints: Vec<Joint>,

@@ -1,6 +1,9 @@
 -- Nearness of sums, products and rounded fractions.
 use Rattle.std.proofs.Common.{◌≡◌, ℕ, ◌+◌, ◌-◌, ◌*◌, ◌/◌, ◌^◌, ◌<◌, ◌≤◌, max, T, ltb, leb, inl, inr, mul-le-mul_right, mul-le-mul, lt_of_mul-lt-mul_right, mul-le-mul_left, div-mul-le_self, le_of_mul-le-mul_right, arith, lit<, ltb→lt, leb→le}
 use native.Mathlib.Nat.{lt-div-mul-add}
+use Rattle.std.specs.Int.{div_ceil}
+use Rattle.std.proofs.lemmas.Grind.{div_ceil_times}
+use Rattle.std.proofs.lemmas.Nat.{le-div, div_below}
 use Rattle.std.proofs.lemmas.Bool.{cases_lt, cond_both, leb-true, leb-false}
 use Rattle.powers.specs.declared.ends.Ends.{Ends}
 use Rattle.powers.specs.declared.quotient.Quotient.{Quotient}
@@ -10,6 +13,14 @@ use Rattle.powers.proofs.Fractions.{le_trans, mul_mono}
 use Rattle.powers.proofs.Formulas.{meet}
 use Rattle.powers.proofs.Enclosures.{Encloses, mul_encloses, add_encloses, sub_encloses, greater_encloses}
 use Rattle.powers.specs.Enclosures.{units, held, Near, Is, Room}
+
+-- a quotient rounded up, as the library has it and as the operations promise it
+pub rounded_up : (x y : ℕ) → 0 < y → div_ceil x y ≡ (x + (y - 1)) / y
+rounded_up x y p =
+    let t = div_ceil_times x y p in
+    let low : div_ceil x y ≤ (x + (y - 1)) / y = le-div (div_ceil x y) (x + (y - 1)) y p (omega arith) in
+    let high : (x + (y - 1)) / y < div_ceil x y + 1 = div_below (x + (y - 1)) y (div_ceil x y + 1) p (omega arith) in
+    omega arith
 
 pub encloses : {x : Ends} {φ : Formula} {a b n : ℕ} → Near x φ a b n → Encloses x φ
 encloses h = record { low = h.low; high = h.high }

@@ -1,15 +1,11 @@
-use Rattle.std.proofs.Common.{◌≡◌, true, is_some, sym, refl, ap, ◌∙◌, w64, SFits, rules}
-use Rattle.std.proofs.lemmas.Int.{to_z-of_z}
-use Rattle.ledger.specs.Places.{At}
+use Rattle.std.proofs.Common.{◌≡◌, true, is_some, sym, refl, ap, ◌∙◌, rules}
 use Rattle.ledger.specs.Ledger.{holding, brace_with_check, force_cause}
-use Rattle.ledger.proofs.Steps.{note_limits, has_force, amended}
+use Rattle.ledger.proofs.Steps.{stood_at, note_limits, has_force, amended}
 use Rattle.ledger.proofs.tables.Tables.note.Goals as goal
 
 pub returns : goal.returns
 returns c =
-    let j : SFits w64 c.args.joint = search rules in
-    let b : SFits w64 c.args.brace = search rules in
-    let at : At c.args.joint c.args.brace (holding c.args.self.now) c.in_ok-i.i = simp to_z-of_z at c.in_ok-i.ensures in
+    let at = stood_at c.args.joint c.args.brace (holding c.args.self.now) c.in_ok-i.i (search rules) (search rules) c.in_ok-i.ensures in
     let loaded : is_some c.index.result.now.force ≡ true = search rules in
     let same = ap (λ x. x.force) (sym (c.index.ensures ∙ at.found.here _)) in
     (note_limits c.args.joint c.args.brace (holding c.args.self.now) c.in_ok-i.i at ∙ ap force_cause same ∙ has_force _ loaded, amended c.args.joint c.args.brace (brace_with_check c.args.verdict) (holding c.args.self.now) _ c.in_ok-i.i c.index.result.now c.with_check.result at c.index.ensures c.with_check.ensures refl refl)

@@ -1,13 +1,9 @@
-use Rattle.std.proofs.Common.{◌≡◌, None, vec_items, fold, ap, ◌∙◌, arith, rules}
-use Rattle.std.proofs.lemmas.List.Sums.{fold_more}
+use Rattle.std.proofs.Common.{◌≡◌, None, vec_items, fold, ap, ◌∙◌, arith}
 use Rattle.std.proofs.lemmas.List.{take_all}
 use Rattle.ledger.specs.Ledger.{holding}
 use Rattle.ledger.specs.Worsts.{with_brace}
 use Rattle.ledger.proofs.Bests.{answers, names}
 use Rattle.ledger.proofs.tables.Tables.worst.Goals as goal
-
-pub loop-i-preserved : goal.loop-i-preserved
-loop-i-preserved c = search (rules, fold_more)
 
 pub returns : goal.returns
 returns c =
