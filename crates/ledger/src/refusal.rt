@@ -19,7 +19,7 @@ pub enum Room {
     BracesAtJoint,
 }
 
-#[derive(Clone, Copy)]
+#[derive(Clone, Copy, PartialEq, Eq, Debug)]
 pub enum Refusal {
     NumberOutside(Place),
     NumberInUse(Place),

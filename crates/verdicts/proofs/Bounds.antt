@@ -1,8 +1,10 @@
 -- The reckoners are bound by what an edition told.
-use Rattle.std.proofs.Common.{◌≡◌, ℕ, ◌+◌, ◌*◌, ◌<◌, ◌≤◌, Bool, true, false, nat_abs, sym, refl, subst, arith, lit<}
+use Rattle.std.proofs.Common.{◌≡◌, ℕ, ◌+◌, ◌*◌, ◌<◌, ◌≤◌, Bool, true, false, nat_abs, Option, Some, None, Ok, sym, refl, subst, arith, lit<}
 use Rattle.powers.specs.Fractions.{Positive, positive_of, ◌≤ᶠ◌, ◌÷◌}
 use Rattle.verdicts.specs.Reckoners.{squared, Strengths, InUse, tension, kind_of_y, kind_of_x, millimetres, moment_resistance, ratio, utilisation}
-use Rattle.editions.specs.Meanings.{Meaning, Lawful, Usable, Enclosed, millionths}
+use Rattle.std.specs.Option.{unwrap_or, ok_or}
+use Rattle.editions.specs.declared.strength.Strength.{Strength}
+use Rattle.editions.specs.Meanings.{Meaning, Lawful, Usable, Enclosed, Tells, millionths}
 use Rattle.records.specs.declared.kind.Kind.{Kind}
 use Rattle.records.specs.declared.kind.Kind.TheVariants.{KAxial, YTension, YCompression, XTension, XCompression, InPlane, OutOfPlane}
 use Rattle.records.specs.declared.record.BraceRecord.{BraceRecord}
@@ -12,35 +14,40 @@ use Rattle.verdicts.specs.declared.ends.Known.{Known}
 use Rattle.verdicts.specs.declared.ends.Consulted.{Consulted}
 use Rattle.verdicts.specs.declared.ends.Resistance.{Resistance}
 use Rattle.verdicts.specs.declared.ends.Ratio.{Ratio}
+use Rattle.records.specs.declared.ratios.Ratios.{Ratios}
+use Rattle.verdicts.specs.declared.verdict.Spent.{Spent}
 use Rattle.verdicts.specs.declared.verdict.Ends.{Ends}
 use Rattle.verdicts.specs.declared.verdict.Part.TheVariants.{AxialForce, InPlaneMoment, OutOfPlaneMoment}
 use Rattle.verdicts.specs.declared.verdict.Verdict.{Verdict}
 use Rattle.verdicts.specs.declared.verdict.Verdict.TheVariants.{Pass, Fail, Near, Far}
 use Rattle.verdicts.specs.Bindings.{Between, Binds, Enclosing, NoneSpent, Reckoners}
 use Rattle.verdicts.specs.Verdicts.{Tens, Worked}
-use Rattle.verdicts.specs.Steps.{Summed, Follows, Sound, KnownOf, Knows, Knowing, Encloses, based}
+use Rattle.verdicts.specs.Steps.{Summed, Follows, Sound, Trusts, KnownOf, Knows, Knowing, Encloses, based}
 use Rattle.verdicts.proofs.Sizes.{told_near}
 use Rattle.verdicts.proofs.Resists.{ratio_low, ratio_high, average_le, average_ge, lever_le, lever_ge}
 use Rattle.verdicts.proofs.Sums.{sum_low, sum_high, sum_close, first_le, second_le, third_le, over_ten, over_one, square_over_one, under_one}
 
-pub knows_at : (m : Meaning) (b : BraceRecord) (n : Force) (i j : Kind) (share : ℕ) (e : Known) → i ≡ j → Knows m b n i share e → Knows m b n j share e
-knows_at m b n i j share e p = subst (λ (k : Kind). Knows m b n k share e) p
+-- What an edition told, where it told a strength.
+pub told_of : (m : Meaning) (b : BraceRecord) (q : Ratios) (k : Kind) (o : Option Strength) (s : Strength) (x : Spent) → Tells m b q k o → Ok s ≡ ok_or o x → Enclosed m b q k s.low s.high
+told_of m b q k (Some r) s x t e = let same : r ≡ s = cc in subst (λ (z : Strength). Enclosed m b q k z.low z.high) same t
+told_of m b q k None s x t e = cc
 
 -- A usable edition's ends are taken as they are told.
-pub known_of : (m : Meaning) (b : BraceRecord) (n : Force) (k : Kind) (low high : ℕ) (e : Known) → Enclosed m b n.ratios k low high
-    → (Sound low high → (e.low ≡ low) × (e.high ≡ high)) → KnownOf m b n k e
-known_of m b n k low high e t h = record { unspent = t.unspent; enclosed = λ u. same (h (sound u)) }
+pub known_of : (m : Meaning) (b : BraceRecord) (n : Force) (k : Kind) (s : Strength) (o : Option Known) (d e : Known) → Enclosed m b n.ratios k s.low s.high
+    → Trusts s o → e ≡ unwrap_or o d → KnownOf m b n k e
+known_of m b n k s o d e t h r = record { unspent = t.unspent; enclosed = λ u. subst (λ (x : Known). Enclosed m b n.ratios k x.low x.high) (sym r) (go u o h) }
   where
-    sound : Usable m → Sound low high
+    sound : Usable m → Sound s.low s.high
     sound u = record {
       firm = omega (arith, t.floored, u.firm);
       ordered = t.ordered;
       top = t.bounded;
-      near = told_near low high m.width t.ordered u.narrow (t.close u);
+      near = told_near s.low s.high m.width t.ordered u.narrow (t.close u);
     }
 
-    same : (e.low ≡ low) × (e.high ≡ high) → Enclosed m b n.ratios k e.low e.high
-    same (p, q) = subst (λ (l : ℕ). Enclosed m b n.ratios k l e.high) (sym p) (subst (λ (h : ℕ). Enclosed m b n.ratios k low h) (sym q) t)
+    go : Usable m → (o : Option Known) → Trusts s o → Enclosed m b n.ratios k (unwrap_or o d).low (unwrap_or o d).high
+    go u (Some x) (p, q) = subst (λ (l : ℕ). Enclosed m b n.ratios k l x.high) (sym p) (subst (λ (h : ℕ). Enclosed m b n.ratios k s.low h) (sym q) t)
+    go u None h = absurd (h (sound u))
 
 -- The kinds in use, class by class.
 pub y_in_use : (b : BraceRecord) (n : Force) → 0 < b.shares.y → InUse b n (kind_of_y (tension n.n))

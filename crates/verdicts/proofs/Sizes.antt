@@ -1,5 +1,7 @@
 -- Bounds of the numbers that a check works with.
 use Rattle.std.proofs.Common.{◌≡◌, ℕ, ◌+◌, ◌-◌, ◌*◌, ◌/◌, ◌<◌, ◌≤◌, sym, subst, mul-le-mul, mul-le-mul_left, div-mul-le_self, le_of_mul-le-mul_right, arith}
+use Rattle.std.specs.Int.{div_ceil}
+use Rattle.std.proofs.lemmas.Grind.{div_ceil_times}
 use native.Mathlib.Nat.{lt-div-mul-add}
 
 pub wall_least : (f w : ℕ) → 200 ≤ f → 60 ≤ w → 720000 ≤ f * (w * w)
@@ -41,20 +43,20 @@ module _ (load low high : ℕ) (firm : 0 < low) (order : low ≤ high) where
   pub quotient_low : load / high * high ≤ load
   quotient_low = div-mul-le_self load high
 
-  pub quotient_high : load ≤ (load + (low - 1)) / low * low
-  quotient_high = omega (arith, lt-div-mul-add {a = load + (low - 1)} {b = low} firm)
+  pub quotient_high : load ≤ div_ceil load low * low
+  quotient_high = (div_ceil_times load low firm).0
 
-  pub quotient_over : (load + (low - 1)) / low * low ≤ load + (low - 1)
-  quotient_over = div-mul-le_self (load + (low - 1)) low
+  quotient_over : div_ceil load low * low < load + low
+  quotient_over = (div_ceil_times load low firm).1
 
-  pub quotient_order : load / high ≤ (load + (low - 1)) / low
+  pub quotient_order : load / high ≤ div_ceil load low
   quotient_order = le_of_mul-le-mul_right {k = low} (omega (arith, quotient_low, quotient_high, mul-le-mul_left (load / high) order)) firm
 
-  pub quotient_near : high * 1000000 ≤ low * 1000700 → (load + (low - 1)) / low * 1000000 ≤ load / high * 1000700 + 2000700
+  pub quotient_near : high * 1000000 ≤ low * 1000700 → div_ceil load low * 1000000 ≤ load / high * 1000700 + 2000700
   quotient_near near =
       let a = load / high in
-      let z = (load + (low - 1)) / low in
-      let over : z * low ≤ load + (low - 1) = quotient_over in
+      let z = div_ceil load low in
+      let over : z * low < load + low = quotient_over in
       let under : load < a * high + high = lt-div-mul-add {a = load} {b = high} private_high in
       let wide : a * (high * 1000000) ≤ a * (low * 1000700) = mul-le-mul_left a near in
       le_of_mul-le-mul_right {k = low} (omega arith) firm

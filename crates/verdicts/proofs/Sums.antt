@@ -1,6 +1,7 @@
 -- The ends of a sum with one part squared.
 use Rattle.std.proofs.Common.{ℕ, ◌+◌, ◌*◌, ◌/◌, ◌<◌, ◌≤◌, inl, inr, mul-le-mul_right, mul-le-mul, arith}
 use Rattle.std.proofs.lemmas.Bool.{cases_lt}
+use Rattle.std.specs.Int.{div_ceil}
 use Rattle.powers.specs.Fractions.{Fraction, ◌≤ᶠ◌, ◌<ᶠ◌, ◌+ᶠ◌}
 use Rattle.verdicts.specs.Reckoners.{whole_number, squared}
 use Rattle.editions.specs.Meanings.{millionths}
@@ -10,7 +11,7 @@ use Rattle.powers.proofs.Laws.{le_trans, lt_le_trans, add_mono, mul_mono}
 square_low : (a : ℕ) (f : Fraction) → millionths a ≤ᶠ f → millionths (a * a / 1000000) ≤ᶠ squared f
 square_low a f p = le_trans {g = squared (millionths a)} (record { across = omega arith }) (mul_mono p p)
 
-square_high : (a : ℕ) (f : Fraction) → f ≤ᶠ millionths a → squared f ≤ᶠ millionths ((a * a + 999999) / 1000000)
+square_high : (a : ℕ) (f : Fraction) → f ≤ᶠ millionths a → squared f ≤ᶠ millionths (div_ceil (a * a) 1000000)
 square_high a f p = le_trans {g = squared (millionths a)} (mul_mono p p) (record { across = omega arith })
 
 join : (a b : ℕ) → millionths a +ᶠ millionths b ≤ᶠ millionths (a + b)
@@ -25,22 +26,22 @@ sum_low a i o f g h p q r =
     le_trans (part (a + i * i / 1000000) o) (add_mono (le_trans (part a (i * i / 1000000)) (add_mono p (square_low i g q))) r)
 
 pub sum_high : (a i o : ℕ) (f g h : Fraction) → f ≤ᶠ millionths a → g ≤ᶠ millionths i → h ≤ᶠ millionths o
-    → f +ᶠ squared g +ᶠ h ≤ᶠ millionths (a + (i * i + 999999) / 1000000 + o)
+    → f +ᶠ squared g +ᶠ h ≤ᶠ millionths (a + div_ceil (i * i) 1000000 + o)
 sum_high a i o f g h p q r =
-    le_trans (add_mono (le_trans (add_mono p (square_high i g q)) (join a ((i * i + 999999) / 1000000))) r) (join (a + (i * i + 999999) / 1000000) o)
+    le_trans (add_mono (le_trans (add_mono p (square_high i g q)) (join a (div_ceil (i * i) 1000000))) r) (join (a + div_ceil (i * i) 1000000) o)
 
 -- Where each ratio's ends are close, so are those of the sum.
 pub sum_close : (a a' i i' o o' : ℕ) → a' * 1000000 ≤ a * 1000700 + 2000700 → i' * 1000000 ≤ i * 1000700 + 2000700 → o' * 1000000 ≤ o * 1000700 + 2000700
-    → (a' + (i' * i' + 999999) / 1000000 + o') * 400 ≤ (a + i * i / 1000000 + o) * 401 + 8000
+    → (a' + div_ceil (i' * i') 1000000 + o') * 400 ≤ (a + i * i / 1000000 + o) * 401 + 8000
 sum_close a a' i i' o o' p q r = elim (cases_lt i 500000) [ inl k ↦ small k | inr k ↦ large k ]
   where
     s : (i' * 1000000) * (i' * 1000000) ≤ (i * 1000700 + 2000700) * (i * 1000700 + 2000700)
     s = mul-le-mul q q
 
-    small : i < 500000 → (a' + (i' * i' + 999999) / 1000000 + o') * 400 ≤ (a + i * i / 1000000 + o) * 401 + 8000
+    small : i < 500000 → (a' + div_ceil (i' * i') 1000000 + o') * 400 ≤ (a + i * i / 1000000 + o) * 401 + 8000
     small k = omega (arith, s)
 
-    large : 500000 ≤ i → (a' + (i' * i' + 999999) / 1000000 + o') * 400 ≤ (a + i * i / 1000000 + o) * 401 + 8000
+    large : 500000 ≤ i → (a' + div_ceil (i' * i') 1000000 + o') * 400 ≤ (a + i * i / 1000000 + o) * 401 + 8000
     large k = let t : 500000 * i ≤ i * i = mul-le-mul_right i k in omega (arith, s, t)
 
 -- parts of a sum

@@ -9,7 +9,7 @@
 --     utilisation b n f         the axial ratio, the square of the in-plane one and the out-of-plane one, added up
 --
 -- Assumes nothing.
-use Rattle.std.specs.Prelude.{◌≡◌, ℕ, ◌+◌, ◌*◌, ◌<◌, Bool, true, false, ◌⊎◌, ℤ, pos, negsuc, unsigned_abs}
+use Rattle.std.specs.Prelude.{◌≡◌, ℕ, ◌+◌, ◌*◌, ◌<◌, Bool, true, false, cond, ◌⊎◌, ℤ, pos, negsuc, unsigned_abs}
 use Rattle.std.proofs.Common.{mul-pos, eq-zero-or-pos, arith, inl, inr, lit<}
 use Rattle.powers.specs.Fractions.{Fraction, Positive, den_positive, num_positive, positive_of, number, quotient, ◌+ᶠ◌, ◌*ᶠ◌, ◌÷◌, ◌*⁺◌, ◌÷⁺◌}
 use Rattle.editions.specs.Meanings.{millionths}
@@ -39,12 +39,10 @@ tension (pos _) = true
 tension (negsuc _) = false
 
 abbrev pub kind_of_y : Bool → Kind
-kind_of_y true = YTension
-kind_of_y false = YCompression
+kind_of_y pulled = cond pulled YTension YCompression
 
 abbrev pub kind_of_x : Bool → Kind
-kind_of_x true = XTension
-kind_of_x false = XCompression
+kind_of_x pulled = cond pulled XTension XCompression
 
 -- The kinds in use: the axial ones of the force's sign with a share above 0, and both moment kinds.
 abbrev pub InUse : BraceRecord → Force → Kind → Type 0

@@ -1,6 +1,7 @@
 -- What the steps of a check promise one another. The promise to callers is in Verdicts.
 --
 --     Sound low high             ends as a usable edition tells them
+--     Trusts s o                 o is the strength s as it is told, or none where its ends are not such
 --     KnownOf, Knows, Knowing    what is known of the strengths in use
 --     based b w                  fy T² w, in hundredths of newtons
 --     Encloses load b r e        e is the load over the resistance r, in millionths
@@ -8,10 +9,12 @@
 --     Follows a i o v            v is the verdict that follows from them
 --
 -- Assumes nothing.
-use Rattle.std.specs.Prelude.{◌≡◌, ℕ, ◌+◌, ◌*◌, ◌/◌, ◌<◌, ◌≤◌, false}
+use Rattle.std.specs.Prelude.{◌≡◌, ℕ, ◌+◌, ◌*◌, ◌/◌, ◌<◌, ◌≤◌, false, Option, Some, None}
+use Rattle.std.specs.Int.{div_ceil}
 use Rattle.records.specs.declared.kind.Kind.{Kind}
 use Rattle.records.specs.declared.kind.Kind.TheVariants.{KAxial, InPlane, OutOfPlane}
 use Rattle.records.specs.declared.record.BraceRecord.{BraceRecord}
+use Rattle.editions.specs.declared.strength.Strength.{Strength}
 use Rattle.editions.specs.Meanings.{Meaning, Usable, Enclosed}
 use Rattle.verdicts.specs.declared.force.Force.{Force}
 use Rattle.verdicts.specs.declared.ends.Known.{Known}
@@ -30,6 +33,11 @@ pub record Sound (low high : ℕ) : Type 0 where
   pub ordered : low ≤ high
   pub top : high ≤ 2000000000
   pub near : high * 1000000 ≤ low * 1000700
+
+-- A strength is taken as it is told where its ends are such.
+abbrev pub Trusts : Strength → Option Known → Type 0
+Trusts s (Some e) = (e.low ≡ s.low) × (e.high ≡ s.high)
+Trusts s None = Sound s.low s.high → ⊥
 
 -- What is known of a strength from its edition.
 pub record KnownOf (m : Meaning) (b : BraceRecord) (n : Force) (k : Kind) (e : Known) : Type 0 where
@@ -62,7 +70,7 @@ pub record Summed (a i o : Ratio) (e : Ends) : Type 0 where
   pub inner : i.low ≤ 10000000
   pub outer : o.low ≤ 10000000
   pub low : e.low ≡ a.low + i.low * i.low / 1000000 + o.low
-  pub high : e.high ≡ a.high + (i.high * i.high + 999999) / 1000000 + o.high
+  pub high : e.high ≡ a.high + div_ceil (i.high * i.high) 1000000 + o.high
 
 abbrev pub Follows : Ratio → Ratio → Ratio → Verdict → Type 0
 Follows a i o (Pass e) = Summed a i o e × (e.high ≤ 1000000)

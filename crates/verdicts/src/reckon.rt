@@ -1,9 +1,9 @@
-// Works out the verdict.
-ghost use Rattle.std.specs.Prelude.{◌≡◌, ℕ, ◌+◌, ◌*◌, ◌/◌, ◌<◌, ◌≤◌, true, MatchResult};
-ghost use Rattle.verdicts.specs.Reckoners.{tension, kind_of_y, kind_of_x};
+// Works out the verdict. The edition, the brace and its force are three parameters and not one struct: the clauses name each alone, and by `now.edition.now` they would say no more.
+ghost use Rattle.std.specs.Prelude.{◌≡◌, ℕ, ◌+◌, ◌*◌, ◌/◌, ◌<◌, ◌≤◌, true, cond, MatchResult};
+ghost use Rattle.verdicts.specs.Reckoners.{tension};
 ghost use Rattle.verdicts.specs.Bindings.{FirstSpent};
 ghost use Rattle.verdicts.specs.Verdicts.{Checked};
-ghost use Rattle.verdicts.specs.Steps.{Follows, Sound, Knows, Knowing, Encloses, based};
+ghost use Rattle.verdicts.specs.Steps.{Follows, Trusts, Knows, Knowing, Encloses, based};
 
 use crate::ends::{Consulted, Known, Ratio, Resistance};
 use crate::force::Force;
@@ -13,21 +13,33 @@ use editions::strength::Strength;
 use records::kind::Kind;
 use records::record::{BraceRecord, Shares};
 
-const TEN: u64 = 10_000_000;
-
+// 1 and 10, in millionths.
 const ONE: u64 = 1_000_000;
 
-// The ends of a strength, if they are as close and as far from 0 as a usable edition's; else any.
-fn trusted(low: u64, high: u64) -> Known
-    ensures { Sound low high → (result.low ≡ low) × (result.high ≡ high) }
+const TEN: u64 = 10 * ONE;
+
+// The ends of a strength, if they are as close and as far from 0 as a usable edition's.
+fn trusted(told: Strength) -> Option<Known>
+    ensures { Trusts told result }
 {
-    if low < 10_000 || high < low || high > 2_000_000_000 || high * 1_000_000 > low * 1_000_700 {
-        return Known {
-            low: 1_000_000,
-            high: 1_000_000,
-        };
+    let Strength { low, high } = told;
+    if 10_000 <= low
+        && low <= high
+        && high <= 2_000_000_000
+        && high * 1_000_000 <= low * 1_000_700
+    {
+        Some(Known { low, high })
+    } else {
+        None
     }
-    Known { low, high }
+}
+
+// Ends of 1, for a strength of which the brace has no share, and for an edition that is not usable.
+fn unknown() -> Known {
+    Known {
+        low: ONE,
+        high: ONE,
+    }
 }
 
 // The ends of a strength, where the brace has a share of it.
@@ -41,12 +53,12 @@ fn known<E: Edition>(
     ensures { MatchResult result (λ e. Knows (E.meaning edition.now) brace.now force.now kind share e) (λ s. (s.kind ≡ kind) × (0 < share) × ((E.meaning edition.now).spent brace.now force.now.ratios kind ≡ true)) }
 {
     if share == 0 {
-        return Ok(trusted(0, 0));
+        return Ok(unknown());
     }
-    match edition.tell(brace, force.ratios, kind) {
-        Strength::Spent => Err(Spent { kind }),
-        Strength::Ends { low, high } => Ok(trusted(low, high)),
-    }
+    let told = edition
+        .tell(brace, force.ratios, kind)
+        .ok_or(Spent { kind })?;
+    Ok(trusted(told).unwrap_or(unknown()))
 }
 
 // No force counts as a pull.
@@ -56,24 +68,11 @@ fn is_tension(force: &Force) -> bool
     force.n >= 0
 }
 
-fn y_kind(force: &Force) -> Kind
-    ensures { result ≡ kind_of_y (tension force.now.n) }
+// The one of two kinds that is asked of a force of this sign.
+fn by_sign(force: &Force, pulled: Kind, pushed: Kind) -> Kind
+    ensures { result ≡ cond (tension force.now.n) pulled pushed }
 {
-    if is_tension(force) {
-        Kind::YTension
-    } else {
-        Kind::YCompression
-    }
-}
-
-fn x_kind(force: &Force) -> Kind
-    ensures { result ≡ kind_of_x (tension force.now.n) }
-{
-    if is_tension(force) {
-        Kind::XTension
-    } else {
-        Kind::XCompression
-    }
+    if is_tension(force) { pulled } else { pushed }
 }
 
 // The strengths in use, or the first kind for which the chord is spent.
@@ -81,8 +80,10 @@ fn consult<E: Edition>(edition: &E, brace: &BraceRecord, force: &Force) -> Resul
     ensures { MatchResult result (λ c. Knowing (E.meaning edition.now) brace.now force.now c) (λ s. FirstSpent (E.meaning edition.now) brace.now force.now s.kind) }
 {
     let k = known(edition, brace, force, Kind::KAxial, brace.shares.k)?;
-    let y = known(edition, brace, force, y_kind(force), brace.shares.y)?;
-    let x = known(edition, brace, force, x_kind(force), brace.shares.x)?;
+    let y_kind = by_sign(force, Kind::YTension, Kind::YCompression);
+    let y = known(edition, brace, force, y_kind, brace.shares.y)?;
+    let x_kind = by_sign(force, Kind::XTension, Kind::XCompression);
+    let x = known(edition, brace, force, x_kind, brace.shares.x)?;
     let inner = known(edition, brace, force, Kind::InPlane, 1)?;
     let outer = known(edition, brace, force, Kind::OutOfPlane, 1)?;
     Ok(Consulted {
@@ -110,6 +111,7 @@ fn shared(shares: Shares, k: u64, y: u64, x: u64) -> u128
     shares.k as u128 * k as u128 + shares.y as u128 * y as u128 + shares.x as u128 * x as u128
 }
 
+// Both ends are written out: a function of one end would take the three strengths of that end, which `shared` does.
 fn axial_resistance(brace: &BraceRecord, c: &Consulted) -> Resistance
     ensures low { result.low ≡ based brace.now (brace.now.shares.k * c.now.k.low + brace.now.shares.y * c.now.y.low + brace.now.shares.x * c.now.x.low) }
     ensures high { result.high ≡ based brace.now (brace.now.shares.k * c.now.k.high + brace.now.shares.y * c.now.y.high + brace.now.shares.x * c.now.x.high) }
@@ -142,7 +144,7 @@ fn ratio(load: u64, brace: &BraceRecord, by: Resistance) -> Ratio
     let load = load as u128 * brace.sine as u128 * 100_000_000_000;
     Ratio {
         low: (load / by.high) as u64,
-        high: ((load + (by.low - 1)) / by.low) as u64,
+        high: load.div_ceil(by.low) as u64,
     }
 }
 
@@ -161,7 +163,7 @@ fn verdict_of(axial: Ratio, inner: Ratio, outer: Ratio) -> Verdict
     }
     let ends = Ends {
         low: axial.low + inner.low * inner.low / ONE + outer.low,
-        high: axial.high + (inner.high * inner.high + (ONE - 1)) / ONE + outer.high,
+        high: axial.high + (inner.high * inner.high).div_ceil(ONE) + outer.high,
     };
     if ends.high <= ONE {
         Verdict::Pass(ends)
@@ -192,6 +194,5 @@ pub fn verdict<E: Edition>(
         brace,
         moment_resistance(brace, c.outer),
     );
-    let r = verdict_of(axial, inner, outer);
-    Ok(r)
+    Ok(verdict_of(axial, inner, outer))
 }

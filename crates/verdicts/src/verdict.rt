@@ -25,7 +25,7 @@ pub enum Verdict {
 }
 
 // The kind in use for which the chord is spent.
-#[derive(Clone, Copy)]
+#[derive(Clone, Copy, PartialEq, Eq, Debug)]
 pub struct Spent {
     pub kind: Kind,
 }

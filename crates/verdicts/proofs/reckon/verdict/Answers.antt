@@ -24,6 +24,6 @@ returns g c =
     record {
       unspent = none_spent m b n s t;
       reckoners = λ u. reckoners m w u b n s t;
-      worked = λ u. worked m b n _ _ _ (pa u) (pi u) (po u) c.verdict_of-r.result c.verdict_of-r.ensures;
-      binds = λ u. binds m b n _ _ _ (pa u) (pi u) (po u) c.verdict_of-r.result c.verdict_of-r.ensures;
+      worked = λ u. worked m b n _ _ _ (pa u) (pi u) (po u) c.verdict_of.result c.verdict_of.ensures;
+      binds = λ u. binds m b n _ _ _ (pa u) (pi u) (po u) c.verdict_of.result c.verdict_of.ensures;
     }
