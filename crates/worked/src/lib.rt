@@ -52,7 +52,7 @@ mod tests {
         matches!(told(edition, joint, kind), Ok(Some(_)))
     }
 
-    // How far apart the told ends are where they enclose `value` millionths, and the lower one.
+    // The told ends, where they enclose `value` millionths.
     fn enclosing<E: Edition>(
         edition: &E,
         joint: Joint,
@@ -296,74 +296,67 @@ mod tests {
         Ok(verdict(edition, &brace, &force))
     }
 
-    fn passed<E: Edition>(edition: &E, figures: ForceFigures) -> Option<Ends> {
-        match answer(edition, figures) {
-            Ok(Ok(Verdict::Pass(ends))) => Some(ends),
-            _ => None,
-        }
-    }
-
-    fn failed<E: Edition>(edition: &E, figures: ForceFigures) -> Option<Ends> {
-        match answer(edition, figures) {
-            Ok(Ok(Verdict::Fail(ends))) => Some(ends),
-            _ => None,
-        }
-    }
-
-    fn near<E: Edition>(edition: &E, figures: ForceFigures) -> Option<Ends> {
-        match answer(edition, figures) {
-            Ok(Ok(Verdict::Near(ends))) => Some(ends),
-            _ => None,
-        }
-    }
-
-    // There are ends, and they enclose `value` and are at most 20 millionths apart.
-    fn is_about(ends: Option<Ends>, value: u64) -> bool {
-        ends.is_some_and(|Ends { low, high }| {
-            low <= value && value <= high && high.saturating_sub(low) <= 20
-        })
+    // The ends enclose `value` and are at most 20 millionths apart.
+    fn is_about(ends: Ends, value: u64) -> bool {
+        ends.low <= value && value <= ends.high && ends.high.saturating_sub(ends.low) <= 20
     }
 
     // X tension resists 412,160 N.
     #[test]
     fn a_pull_of_206080_is_half_of_what_x_resists(rt: HostRuntime) {
-        assert!(rt; is_about(passed(&Iso2007 {}, pull(206080)), 500000));
-        assert!(rt; is_about(passed(&Api {}, pull(206080)), 500000));
-        assert!(rt; is_about(passed(&Iso2007 {}, pull(0)), 0));
+        assert!(rt;
+            matches!(answer(&Iso2007 {}, pull(206080)), Ok(Ok(Verdict::Pass(e))) if is_about(e, 500000))
+        );
+        assert!(rt;
+            matches!(answer(&Api {}, pull(206080)), Ok(Ok(Verdict::Pass(e))) if is_about(e, 500000))
+        );
+        assert!(rt;
+            matches!(answer(&Iso2007 {}, pull(0)), Ok(Ok(Verdict::Pass(e))) if is_about(e, 0))
+        );
     }
 
     #[test]
     fn pulls_about_the_resistance_pass_are_near_or_fail(rt: HostRuntime) {
-        assert!(rt; is_about(passed(&Iso2007 {}, pull(412150)), 999976));
-        assert!(rt; is_about(near(&Iso2007 {}, pull(412160)), 1000000));
-        assert!(rt; is_about(failed(&Iso2007 {}, pull(412170)), 1000024));
-        assert!(rt; is_about(failed(&Iso2007 {}, pull(420000)), 1019022));
+        assert!(rt;
+            matches!(answer(&Iso2007 {}, pull(412150)), Ok(Ok(Verdict::Pass(e))) if is_about(e, 999976))
+        );
+        assert!(rt;
+            matches!(answer(&Iso2007 {}, pull(412160)), Ok(Ok(Verdict::Near(e))) if is_about(e, 1000000))
+        );
+        assert!(rt;
+            matches!(answer(&Iso2007 {}, pull(412170)), Ok(Ok(Verdict::Fail(e))) if is_about(e, 1000024))
+        );
+        assert!(rt;
+            matches!(answer(&Iso2007 {}, pull(420000)), Ok(Ok(Verdict::Fail(e))) if is_about(e, 1019022))
+        );
     }
 
     // X compression resists less than X tension; the sign of the force tells which.
     #[test]
     fn the_sign_of_the_force_chooses_the_kind(rt: HostRuntime) {
-        let pulled = passed(&Iso2007 {}, pull(206080));
-        let pushed = passed(&Iso2007 {}, pull(-206080));
+        let pulled = answer(&Iso2007 {}, pull(206080));
+        let pushed = answer(&Iso2007 {}, pull(-206080));
         assert!(rt;
-            pulled
-                .zip(pushed)
-                .is_some_and(|(pulled, pushed)| pulled.high < pushed.low)
+            matches!((pulled, pushed), (Ok(Ok(Verdict::Pass(t))), Ok(Ok(Verdict::Pass(c)))) if t.high < c.low)
         );
     }
 
     // In-plane the joint resists 129,024 Nm by ISO.
     #[test]
     fn the_in_plane_ratio_is_squared(rt: HostRuntime) {
-        assert!(rt; is_about(passed(&Iso2007 {}, bend(64512, 0)), 250000));
-        assert!(rt; is_about(passed(&Iso2007 {}, bend(-64512, 0)), 250000));
+        assert!(rt;
+            matches!(answer(&Iso2007 {}, bend(64512, 0)), Ok(Ok(Verdict::Pass(e))) if is_about(e, 250000))
+        );
+        assert!(rt;
+            matches!(answer(&Iso2007 {}, bend(-64512, 0)), Ok(Ok(Verdict::Pass(e))) if is_about(e, 250000))
+        );
     }
 
     #[test]
     fn a_ratio_above_ten_is_far_and_the_first_is_named(rt: HostRuntime) {
         let iso = Iso2007 {};
-        assert!(rt; failed(&iso, pull(4121600)).is_some());
-        assert!(rt; failed(&iso, bend(1290200, 0)).is_some());
+        assert!(rt; matches!(answer(&iso, pull(4121600)), Ok(Ok(Verdict::Fail(_)))));
+        assert!(rt; matches!(answer(&iso, bend(1290200, 0)), Ok(Ok(Verdict::Fail(_)))));
         for (figures, part) in [
             (pull(4121700), Part::AxialForce),
             (bend(1290300, 0), Part::InPlaneMoment),
@@ -399,7 +392,9 @@ mod tests {
             },
             ..pull(1000)
         };
-        assert!(rt; is_about(passed(&Api {}, spent_for_y), 5691));
+        assert!(rt;
+            matches!(answer(&Api {}, spent_for_y), Ok(Ok(Verdict::Pass(e))) if is_about(e, 5691))
+        );
         let kind = Kind::InPlane;
         assert_eq!(rt; kind.number(), 6);
         assert_eq!(rt;
@@ -478,8 +473,8 @@ mod tests {
 
     #[test]
     fn limits_hold_on_both_sides(rt: HostRuntime) {
-        for (joint, misfit) in LIMITS {
-            assert_eq!(rt; joint.records().err(), misfit, "at {joint:?}");
+        for (joint, misfit) in &LIMITS {
+            assert_eq!(rt; joint.records().err(), *misfit, "at {joint:?}");
         }
     }
 }

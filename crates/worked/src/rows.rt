@@ -7,7 +7,7 @@ use records::limits::Figure::{
 use records::limits::Misfit;
 use records::limits::Misfit::{Outside, SharesSum};
 
-pub const LIMITS: [(Joint, Option<Misfit>); 79] = [
+pub static LIMITS: [(Joint, Option<Misfit>); 79] = [
     (FITS, None),
     (
         Joint {
