@@ -2,10 +2,13 @@
 #![tactic(auto)]
 
 #[cfg(test)]
+mod joint;
+#[cfg(test)]
 mod rows;
 
 #[cfg(test)]
 mod tests {
+    use crate::joint::{FITS, Joint};
     use crate::rows::LIMITS;
     use editions::api::Api;
     use editions::edition::Edition;
@@ -16,130 +19,79 @@ mod tests {
     use layers::divisor::Divisor;
     use layers::pile::Pile;
     use records::kind::Kind;
-    use records::limits::{BraceFigures, ChordFigures, Figure, Misfit, RatioFigures};
-    use records::ratios::Ratios;
-    use records::record::{BraceRecord, Chord};
+    use records::limits::{Figure, Misfit, RatioFigures};
     use std::test::Fail;
     use verdicts::force::Force;
     use verdicts::forces::ForceFigures;
     use verdicts::reckon::verdict;
-    use verdicts::verdict::{Part, Verdict};
+    use verdicts::verdict::{Ends, Part, Spent, Verdict};
 
-    // A joint with a yield of 350 throughout and a gap g.
-    #[derive(Clone, Copy)]
-    struct Joint {
-        diameter: i64,
-        wall: i64,
-        brace: i64,
-        gap: i64,
-        p: i64,
-        mi: i64,
-        mo: i64,
-    }
-
-    fn brace_of(j: Joint) -> Option<BraceRecord> {
-        let Ok(chord) = Chord::new(ChordFigures {
-            diameter: j.diameter,
-            wall: j.wall,
-            nominal: j.wall,
-            fy: 350,
-        }) else {
-            return None;
-        };
-        let figures = BraceFigures {
-            brace: j.brace,
-            thickness: j.wall,
-            fyb: 350,
-            sine: 1000000,
-            gap: j.gap,
-            length: 500,
-            k: 0,
-            y: 0,
-            x: 1000,
-        };
-        let Ok(brace) = BraceRecord::new(chord, figures) else {
-            return None;
-        };
-        Some(brace)
-    }
-
-    fn ratios_of(j: Joint) -> Option<Ratios> {
-        let Ok(ratios) = Ratios::new(RatioFigures {
-            p: j.p,
-            mi: j.mi,
-            mo: j.mo,
-        }) else {
-            return None;
-        };
-        Some(ratios)
-    }
-
-    // The ends that an edition tells, or none where the chord is spent or the joint is not within its limits.
-    fn ends<E: Edition>(edition: &E, j: Joint, kind: Kind) -> Option<(u64, u64)> {
-        let Some(brace) = brace_of(j) else {
-            return None;
-        };
-        let Some(ratios) = ratios_of(j) else {
-            return None;
-        };
-        match edition.tell(&brace, ratios, kind) {
-            Strength::Spent => None,
-            Strength::Ends { low, high } => Some((low, high)),
-        }
-    }
-
-    // The strength is `value` millionths: it lies between ends that are a millionth of it and three units apart at most.
-    fn tells<E: Edition>(edition: &E, j: Joint, kind: Kind, value: u64) -> bool {
-        let Some((low, high)) = ends(edition, j, kind) else {
-            return false;
-        };
-        low <= value && value <= high && high.saturating_sub(low) <= low / 1000000 + 3
-    }
-
+    // An X joint as thick as its brace, with no load on its chord.
     fn unloaded(diameter: i64, wall: i64, brace: i64) -> Joint {
         Joint {
             diameter,
             wall,
+            nominal: wall,
             brace,
-            gap: 50,
-            p: 0,
-            mi: 0,
-            mo: 0,
+            thickness: wall,
+            ..FITS
         }
+    }
+
+    // What an edition tells: a strength, or none where the chord is spent.
+    fn told<E: Edition>(edition: &E, joint: Joint, kind: Kind) -> Result<Option<Strength>, Misfit> {
+        let (brace, ratios) = joint.records()?;
+        Ok(edition.tell(&brace, ratios, kind))
+    }
+
+    fn is_spent<E: Edition>(edition: &E, joint: Joint, kind: Kind) -> bool {
+        matches!(told(edition, joint, kind), Ok(None))
+    }
+
+    fn is_unspent<E: Edition>(edition: &E, joint: Joint, kind: Kind) -> bool {
+        matches!(told(edition, joint, kind), Ok(Some(_)))
+    }
+
+    // The told ends, where they enclose `value` millionths.
+    fn enclosing<E: Edition>(
+        edition: &E,
+        joint: Joint,
+        kind: Kind,
+        value: u64,
+    ) -> Option<Strength> {
+        match told(edition, joint, kind) {
+            Ok(Some(strength)) if strength.low <= value && value <= strength.high => Some(strength),
+            _ => None,
+        }
+    }
+
+    fn apart(strength: Strength) -> u64 {
+        strength.high.saturating_sub(strength.low)
+    }
+
+    // The strength is `value` millionths: it lies between ends that are a millionth of it and three units apart at most.
+    fn tells<E: Edition>(edition: &E, joint: Joint, kind: Kind, value: u64) -> bool {
+        enclosing(edition, joint, kind, value).is_some_and(|s| apart(s) <= s.low / 1000000 + 3)
+    }
+
+    // The same of ends that are two units apart at most.
+    fn tells_closely<E: Edition>(edition: &E, joint: Joint, kind: Kind, value: u64) -> bool {
+        enclosing(edition, joint, kind, value).is_some_and(|s| apart(s) <= 2)
     }
 
     #[test]
     fn x_tension_is_18_4_by_both_editions(rt: HostRuntime) {
-        assert!(rt; tells(&Api {}, unloaded(400, 80, 320), Kind::XTension, 18400000));
-        assert!(rt;
-            tells(
-                &Iso2007 {},
-                unloaded(400, 80, 320),
-                Kind::XTension,
-                18400000,
-            )
-        );
+        let joint = unloaded(400, 80, 320);
+        assert!(rt; tells(&Api {}, joint, Kind::XTension, 18400000));
+        assert!(rt; tells(&Iso2007 {}, joint, Kind::XTension, 18400000));
     }
 
     #[test]
     fn iso_factors_are_11_4_and_18_and_16(rt: HostRuntime) {
-        assert!(rt;
-            tells(
-                &Iso2007 {},
-                unloaded(400, 80, 200),
-                Kind::YCompression,
-                11400000,
-            )
-        );
-        assert!(rt; tells(&Iso2007 {}, unloaded(400, 80, 320), Kind::InPlane, 18000000));
-        assert!(rt;
-            tells(
-                &Iso2007 {},
-                unloaded(400, 80, 400),
-                Kind::OutOfPlane,
-                16000000,
-            )
-        );
+        let iso = Iso2007 {};
+        assert!(rt; tells(&iso, unloaded(400, 80, 200), Kind::YCompression, 11400000));
+        assert!(rt; tells(&iso, unloaded(400, 80, 320), Kind::InPlane, 18000000));
+        assert!(rt; tells(&iso, unloaded(400, 80, 400), Kind::OutOfPlane, 16000000));
     }
 
     #[test]
@@ -149,7 +101,7 @@ mod tests {
                 &Api {},
                 unloaded(400, 100, 400),
                 Kind::YCompression,
-                38800000,
+                38800000
             )
         );
         assert!(rt;
@@ -157,7 +109,7 @@ mod tests {
                 &Api {},
                 unloaded(600, 60, 600),
                 Kind::YCompression,
-                38800000,
+                38800000
             )
         );
     }
@@ -165,173 +117,70 @@ mod tests {
     // At β = 1 and γ = 20 the K factor is 40 times the gap factor.
     #[test]
     fn api_gap_factor_is_1_1272112_at_a_twentieth(rt: HostRuntime) {
-        assert!(rt;
-            tells(
-                &Api {},
-                Joint {
-                    diameter: 400,
-                    wall: 100,
-                    brace: 400,
-                    gap: 20,
-                    p: 0,
-                    mi: 0,
-                    mo: 0,
-                },
-                Kind::KAxial,
-                45088448,
-            )
-        );
+        let joint = Joint {
+            gap: 20,
+            ..unloaded(400, 100, 400)
+        };
+        assert!(rt; tells(&Api {}, joint, Kind::KAxial, 45088448));
     }
 
     // At β = 1 the Y tension factor is 30.
     #[test]
     fn api_chord_factor_falls_and_rises_with_p(rt: HostRuntime) {
-        assert!(rt;
-            tells(
-                &Api {},
-                Joint {
-                    diameter: 400,
-                    wall: 80,
-                    brace: 400,
-                    gap: 50,
-                    p: -3000,
-                    mi: 0,
-                    mo: 0,
-                },
-                Kind::YTension,
-                25140000,
-            )
-        );
-        assert!(rt;
-            tells(
-                &Api {},
-                Joint {
-                    diameter: 400,
-                    wall: 80,
-                    brace: 400,
-                    gap: 50,
-                    p: 3000,
-                    mi: 0,
-                    mo: 0,
-                },
-                Kind::YTension,
-                30540000,
-            )
-        );
+        let pushed = Joint {
+            p: -3000,
+            ..unloaded(400, 80, 400)
+        };
+        let pulled = Joint {
+            p: 3000,
+            ..unloaded(400, 80, 400)
+        };
+        assert!(rt; tells(&Api {}, pushed, Kind::YTension, 25140000));
+        assert!(rt; tells(&Api {}, pulled, Kind::YTension, 30540000));
     }
 
     #[test]
     fn api_y_chord_is_spent_from_p_8897_on(rt: HostRuntime) {
         let unspent = Joint {
-            diameter: 400,
-            wall: 80,
-            brace: 320,
-            gap: 50,
             p: -8896,
-            mi: 0,
-            mo: 0,
+            ..unloaded(400, 80, 320)
         };
         let spent = Joint {
-            diameter: 400,
-            wall: 80,
-            brace: 320,
-            gap: 50,
             p: -8897,
-            mi: 0,
-            mo: 0,
+            ..unloaded(400, 80, 320)
         };
-        assert!(rt; ends(&Api {}, unspent, Kind::YTension).is_some());
-        assert!(rt; ends(&Api {}, spent, Kind::YTension).is_none());
-        assert!(rt; ends(&Api {}, unspent, Kind::YCompression).is_some());
-        assert!(rt; ends(&Api {}, spent, Kind::YCompression).is_none());
+        assert!(rt; is_unspent(&Api {}, unspent, Kind::YTension));
+        assert!(rt; is_spent(&Api {}, spent, Kind::YTension));
+        assert!(rt; is_unspent(&Api {}, unspent, Kind::YCompression));
+        assert!(rt; is_spent(&Api {}, spent, Kind::YCompression));
     }
 
     // Qf is exactly a tenth there.
     #[test]
     fn a_tenth_is_not_spent(rt: HostRuntime) {
         let tenth = Joint {
-            diameter: 400,
-            wall: 80,
-            brace: 320,
-            gap: 50,
-            p: 0,
             mi: 7500,
             mo: 7500,
+            ..unloaded(400, 80, 320)
         };
-        let less = Joint {
-            diameter: 400,
-            wall: 80,
-            brace: 320,
-            gap: 50,
-            p: 0,
-            mi: 7500,
-            mo: 7501,
-        };
-        assert!(rt; ends(&Api {}, tenth, Kind::YTension).is_some());
-        assert!(rt; ends(&Api {}, less, Kind::YTension).is_none());
+        let less = Joint { mo: 7501, ..tenth };
+        assert!(rt; is_unspent(&Api {}, tenth, Kind::YTension));
+        assert!(rt; is_spent(&Api {}, less, Kind::YTension));
     }
 
     // Qβ is 1 at β = 0.6 and 0.3 / (0.601 × (1 − 0.833 × 0.601)) just above it.
     #[test]
     fn q_beta_jumps_above_six_tenths(rt: HostRuntime) {
-        assert!(rt;
-            tells(
-                &Api {},
-                unloaded(1000, 400, 600),
-                Kind::XCompression,
-                10750000,
-            )
-        );
-        assert!(rt;
-            tells(
-                &Api {},
-                unloaded(1000, 400, 601),
-                Kind::XCompression,
-                10758962,
-            )
-        );
+        let iso = Iso2007 {};
+        assert!(rt; tells(&iso, unloaded(1000, 400, 600), Kind::XCompression, 10750000));
+        assert!(rt; tells(&iso, unloaded(1000, 400, 601), Kind::XCompression, 10758962));
     }
 
     // D 400, T 80, Tn 40, Lc 500.
-    fn short_can(brace: i64) -> Option<BraceRecord> {
-        let Ok(chord) = Chord::new(ChordFigures {
-            diameter: 400,
-            wall: 80,
+    fn short_can(brace: i64) -> Joint {
+        Joint {
             nominal: 40,
-            fy: 350,
-        }) else {
-            return None;
-        };
-        let figures = BraceFigures {
-            brace,
-            thickness: 80,
-            fyb: 350,
-            sine: 1000000,
-            gap: 50,
-            length: 500,
-            k: 0,
-            y: 0,
-            x: 1000,
-        };
-        let Ok(brace) = BraceRecord::new(chord, figures) else {
-            return None;
-        };
-        Some(brace)
-    }
-
-    // The strength is `value` millionths, within two units.
-    fn told<E: Edition>(edition: &E, brace: i64, kind: Kind, value: u64) -> bool {
-        let Some(record) = short_can(brace) else {
-            return false;
-        };
-        let Ok(ratios) = Ratios::new(RatioFigures { p: 0, mi: 0, mo: 0 }) else {
-            return false;
-        };
-        match edition.tell(&record, ratios, kind) {
-            Strength::Spent => false,
-            Strength::Ends { low, high } => low <= value
-                && value <= high
-                && high.saturating_sub(low) <= 2,
+            ..unloaded(400, 80, brace)
         }
     }
 
@@ -339,356 +188,293 @@ mod tests {
     #[test]
     fn a_short_can_takes_its_part_of_y_and_x(rt: HostRuntime) {
         let can = Can { below: Iso2007 {} };
-        assert!(rt; told(&can, 200, Kind::YTension, 9375000));
-        assert!(rt; told(&can, 400, Kind::YTension, 26250000));
-        assert!(rt; told(&can, 200, Kind::XTension, 7187500));
-        assert!(rt; told(&can, 320, Kind::InPlane, 18000000));
-        assert!(rt; told(&can, 400, Kind::OutOfPlane, 16000000));
+        assert!(rt; tells_closely(&can, short_can(200), Kind::YTension, 9375000));
+        assert!(rt; tells_closely(&can, short_can(400), Kind::YTension, 26250000));
+        assert!(rt; tells_closely(&can, short_can(200), Kind::XTension, 7187500));
+        assert!(rt; tells_closely(&can, short_can(320), Kind::InPlane, 18000000));
+        assert!(rt; tells_closely(&can, short_can(400), Kind::OutOfPlane, 16000000));
     }
 
     #[test]
     fn a_divisor_divides_and_refuses_outside_100_to_200(rt: HostRuntime) -> Result<(), Fail> {
-        match Divisor::new(Iso2007 {}, 125) {
-            Ok(divisor) => assert!(rt;
-                told(&divisor, 320, Kind::YTension, 19200000)
-                    && told(&divisor, 320, Kind::InPlane, 14400000)
-            ),
-            Err(_) => {
-                assert!(rt; false);
-                return Ok(())
-            },
+        let Ok(divisor) = Divisor::new(Iso2007 {}, 125) else {
+            return Err(Fail::new("125 hundredths are no divisor"));
+        };
+        assert!(rt; tells_closely(&divisor, short_can(320), Kind::YTension, 19200000));
+        assert!(rt; tells_closely(&divisor, short_can(320), Kind::InPlane, 14400000));
+        for c in [100, 200] {
+            assert!(rt; Divisor::new(Api {}, c).is_ok(), "at {c}");
         }
-        assert!(rt; Divisor::new(Api {}, 100).is_ok() && Divisor::new(Api {}, 200).is_ok());
-        assert!(rt;
-            Divisor::new(Api {}, 99).is_err()
-                && Divisor::new(Api {}, 201).is_err()
-                && Divisor::new(Api {}, -9223372036854775808).is_err()
-        );
-        match Divisor::new(Api {}, 201) {
-            Ok(_) => {
-                assert!(rt; false);
-                Ok(())
-            },
-            Err(refused) => {
-                assert!(rt; refused.fault.number() == 7 && refused.fault.field() == 3);
-                Ok(())
-            },
+        for c in [99, 201, i64::MIN] {
+            assert!(rt; Divisor::new(Api {}, c).is_err(), "at {c}");
         }
+        let Err(refused) = Divisor::new(Api {}, 201) else {
+            return Err(Fail::new("201 hundredths are a divisor"));
+        };
+        assert_eq!(rt; (refused.fault.number(), refused.fault.field()), (7, 3));
+        Ok(())
     }
 
-    fn four_cans() -> Can<Can<Can<Can<Api>>>> {
-        Can {
-            below: Can {
-                below: Can {
-                    below: Can { below: Api {} },
-                },
-            },
-        }
+    fn canned<E>(below: E) -> Can<E> {
+        Can { below }
     }
 
     // Three layers are 1,000 wide, two cans have a floor of 6,250, and ten layers neither pass a million nor fall below 0.
     #[test]
     fn stacks_add_up_their_widths_and_floors(rt: HostRuntime) {
-        assert!(rt;
-            Can {
-                below: Can {
-                    below: Can { below: Api {} },
-                },
-            }
-            .width()
-                == 1000
-        );
-        assert!(rt;
-            Can {
-                below: Can { below: Iso2007 {} },
-            }
-            .floor()
-                == 6250
-        );
-        let ten = Can {
-            below: Can {
-                below: Can {
-                    below: Can {
-                        below: Can {
-                            below: Can { below: four_cans() },
-                        },
-                    },
-                },
-            },
-        };
-        assert!(rt; ten.width() == 3100 && ten.floor() == 0);
+        assert_eq!(rt; canned(canned(canned(Api {}))).width(), 1000);
+        assert_eq!(rt; canned(canned(Iso2007 {})).floor(), 6250);
+        let four = canned(canned(canned(canned(Api {}))));
+        let ten = canned(canned(canned(canned(canned(canned(four))))));
+        assert_eq!(rt; ten.width(), 3100);
+        assert_eq!(rt; ten.floor(), 0);
     }
 
-    // What comes of the numbers of a pile: its width and its floor, or the field that a refusal names.
-    fn named(edition: i64, c: i64, can: i64) -> (u64, u64) {
+    // The width and the floor of the pile that the numbers name, or the number of the refusal and the field that it names.
+    fn named(edition: i64, c: i64, can: i64) -> Result<(u64, u64), (u8, u8)> {
         match Pile::of(edition, c, can) {
-            Ok(pile) => (pile.width(), pile.floor()),
-            Err(fault) => (fault.number() as u64, fault.field() as u64),
+            Ok(pile) => Ok((pile.width(), pile.floor())),
+            Err(fault) => Err((fault.number(), fault.field())),
         }
     }
 
     #[test]
     fn numbers_name_piles(rt: HostRuntime) {
-        assert!(rt; named(1, 100, 0) == (100, 100000) && named(2, 100, 0) == (100, 100000));
-        assert!(rt; named(1, 100, 1) == (400, 25000) && named(2, 101, 0) == (400, 50000));
-        assert!(rt; named(2, 200, 1) == (700, 12500));
-        assert!(rt;
-            named(0, 99, 2) == (7, 2) && named(3, 100, 0) == (7, 2) && named(-1, 100, 0) == (7, 2)
-        );
-        assert!(rt; named(1, 99, 2) == (7, 3) && named(2, 201, 0) == (7, 3));
-        assert!(rt; named(1, 100, 2) == (7, 4) && named(2, 200, -1) == (7, 4));
+        for (edition, c, can, outcome) in [
+            (1, 100, 0, Ok((100, 100000))),
+            (2, 100, 0, Ok((100, 100000))),
+            (1, 100, 1, Ok((400, 25000))),
+            (2, 101, 0, Ok((400, 50000))),
+            (2, 200, 1, Ok((700, 12500))),
+            (0, 99, 2, Err((7, 2))),
+            (3, 100, 0, Err((7, 2))),
+            (-1, 100, 0, Err((7, 2))),
+            (1, 99, 2, Err((7, 3))),
+            (2, 201, 0, Err((7, 3))),
+            (1, 100, 2, Err((7, 4))),
+            (2, 200, -1, Err((7, 4))),
+        ] {
+            assert_eq!(rt; named(edition, c, can), outcome, "at {edition}, {c}, {can}");
+        }
     }
 
     #[test]
     fn texts_name_editions(rt: HostRuntime) {
-        assert_eq!(rt; edition_number("iso2007"), 1);
-        assert_eq!(rt; edition_number("api"), 2);
-        assert_eq!(rt; edition_number("API"), 0);
-        assert_eq!(rt; edition_number("iso2007 "), 0);
-        assert_eq!(rt; edition_number(""), 0);
+        for (text, number) in [
+            ("iso2007", 1),
+            ("api", 2),
+            ("API", 0),
+            ("iso2007 ", 0),
+            ("", 0),
+        ] {
+            assert_eq!(rt; edition_number(text), number, "at {text}");
+        }
     }
 
-    // A force on an X joint with D 400, T 80, d 320 and sine 1, and the chord's axial ratio.
-    #[derive(Clone, Copy)]
-    struct Load {
-        n: i64,
-        my: i64,
-        mz: i64,
-        p: i64,
-    }
+    const NO_LOAD: RatioFigures = RatioFigures { p: 0, mi: 0, mo: 0 };
 
-    fn figures_of(load: Load) -> ForceFigures {
+    fn pull(n: i64) -> ForceFigures {
         ForceFigures {
-            n: load.n,
-            my: load.my,
-            mz: load.mz,
-            p: load.p,
-            mi: 0,
-            mo: 0,
-        }
-    }
-
-    // 1, 2 and 3 with the ends of PASS, FAIL and NEAR; 4 with the part of FAR; 5 with the kind of a spent chord.
-    fn answer<E: Edition>(edition: &E, load: Load) -> (u8, u64, u64) {
-        let Some(brace) = brace_of(unloaded(400, 80, 320)) else {
-            return (0, 0, 0);
-        };
-        let Ok(force) = Force::new(figures_of(load)) else {
-            return (0, 0, 0);
-        };
-        match verdict(edition, &brace, &force) {
-            Ok(Verdict::Pass(e)) => (1, e.low, e.high),
-            Ok(Verdict::Fail(e)) => (2, e.low, e.high),
-            Ok(Verdict::Near(e)) => (3, e.low, e.high),
-            Ok(Verdict::Far(Part::AxialForce)) => (4, 1, 1),
-            Ok(Verdict::Far(Part::InPlaneMoment)) => (4, 2, 2),
-            Ok(Verdict::Far(Part::OutOfPlaneMoment)) => (4, 3, 3),
-            Err(spent) => (5, spent.kind.number() as u64, 0),
-        }
-    }
-
-    // The answer is this verdict, and its ends enclose `value` and are at most 20 millionths apart.
-    fn is_about(answer: (u8, u64, u64), verdict: u8, value: u64) -> bool {
-        let (found, low, high) = answer;
-        found == verdict && low <= value && value <= high && high.saturating_sub(low) <= 20
-    }
-
-    fn pull(n: i64) -> Load {
-        Load {
             n,
             my: 0,
             mz: 0,
-            p: 0,
+            ratios: NO_LOAD,
         }
     }
 
-    fn bend(my: i64, mz: i64) -> Load {
-        Load { n: 0, my, mz, p: 0 }
+    fn bend(my: i64, mz: i64) -> ForceFigures {
+        ForceFigures { my, mz, ..pull(0) }
+    }
+
+    // The verdict on an X joint with D 400, T 80, d 320 and sine 1, or the kind of a spent chord.
+    fn answer<E: Edition>(
+        edition: &E,
+        figures: ForceFigures,
+    ) -> Result<Result<Verdict, Spent>, Misfit> {
+        let (brace, _) = unloaded(400, 80, 320).records()?;
+        let force = Force::new(figures)?;
+        Ok(verdict(edition, &brace, &force))
+    }
+
+    // The ends enclose `value` and are at most 20 millionths apart.
+    fn is_about(ends: Ends, value: u64) -> bool {
+        ends.low <= value && value <= ends.high && ends.high.saturating_sub(ends.low) <= 20
     }
 
     // X tension resists 412,160 N.
     #[test]
     fn a_pull_of_206080_is_half_of_what_x_resists(rt: HostRuntime) {
-        assert!(rt; is_about(answer(&Iso2007 {}, pull(206080)), 1, 500000));
-        assert!(rt; is_about(answer(&Api {}, pull(206080)), 1, 500000));
-        assert!(rt; is_about(answer(&Iso2007 {}, pull(0)), 1, 0));
+        assert!(rt;
+            matches!(answer(&Iso2007 {}, pull(206080)), Ok(Ok(Verdict::Pass(e))) if is_about(e, 500000))
+        );
+        assert!(rt;
+            matches!(answer(&Api {}, pull(206080)), Ok(Ok(Verdict::Pass(e))) if is_about(e, 500000))
+        );
+        assert!(rt;
+            matches!(answer(&Iso2007 {}, pull(0)), Ok(Ok(Verdict::Pass(e))) if is_about(e, 0))
+        );
     }
 
     #[test]
     fn pulls_about_the_resistance_pass_are_near_or_fail(rt: HostRuntime) {
-        assert!(rt; is_about(answer(&Iso2007 {}, pull(412150)), 1, 999976));
-        assert!(rt; is_about(answer(&Iso2007 {}, pull(412160)), 3, 1000000));
-        assert!(rt; is_about(answer(&Iso2007 {}, pull(412170)), 2, 1000024));
-        assert!(rt; is_about(answer(&Iso2007 {}, pull(420000)), 2, 1019022));
+        assert!(rt;
+            matches!(answer(&Iso2007 {}, pull(412150)), Ok(Ok(Verdict::Pass(e))) if is_about(e, 999976))
+        );
+        assert!(rt;
+            matches!(answer(&Iso2007 {}, pull(412160)), Ok(Ok(Verdict::Near(e))) if is_about(e, 1000000))
+        );
+        assert!(rt;
+            matches!(answer(&Iso2007 {}, pull(412170)), Ok(Ok(Verdict::Fail(e))) if is_about(e, 1000024))
+        );
+        assert!(rt;
+            matches!(answer(&Iso2007 {}, pull(420000)), Ok(Ok(Verdict::Fail(e))) if is_about(e, 1019022))
+        );
     }
 
     // X compression resists less than X tension; the sign of the force tells which.
     #[test]
     fn the_sign_of_the_force_chooses_the_kind(rt: HostRuntime) {
-        let (pulled, _, most) = answer(&Iso2007 {}, pull(206080));
-        let (pushed, least, _) = answer(&Iso2007 {}, pull(-206080));
-        assert!(rt; pulled == 1 && pushed == 1 && most < least);
+        let pulled = answer(&Iso2007 {}, pull(206080));
+        let pushed = answer(&Iso2007 {}, pull(-206080));
+        assert!(rt;
+            matches!((pulled, pushed), (Ok(Ok(Verdict::Pass(t))), Ok(Ok(Verdict::Pass(c)))) if t.high < c.low)
+        );
     }
 
     // In-plane the joint resists 129,024 Nm by ISO.
     #[test]
     fn the_in_plane_ratio_is_squared(rt: HostRuntime) {
-        assert!(rt; is_about(answer(&Iso2007 {}, bend(64512, 0)), 1, 250000));
-        assert!(rt; is_about(answer(&Iso2007 {}, bend(-64512, 0)), 1, 250000));
+        assert!(rt;
+            matches!(answer(&Iso2007 {}, bend(64512, 0)), Ok(Ok(Verdict::Pass(e))) if is_about(e, 250000))
+        );
+        assert!(rt;
+            matches!(answer(&Iso2007 {}, bend(-64512, 0)), Ok(Ok(Verdict::Pass(e))) if is_about(e, 250000))
+        );
     }
 
     #[test]
     fn a_ratio_above_ten_is_far_and_the_first_is_named(rt: HostRuntime) {
-        assert!(rt; answer(&Iso2007 {}, pull(4121600)).0 == 2);
-        assert!(rt; answer(&Iso2007 {}, pull(4121700)) == (4, 1, 1));
-        assert!(rt; answer(&Iso2007 {}, bend(1290200, 0)).0 == 2);
-        assert!(rt; answer(&Iso2007 {}, bend(1290300, 0)) == (4, 2, 2));
-        assert!(rt; answer(&Iso2007 {}, bend(0, 100000000)) == (4, 3, 3));
-        assert!(rt; answer(&Iso2007 {}, bend(1290300, 100000000)) == (4, 2, 2));
-        let all = Load {
+        let iso = Iso2007 {};
+        assert!(rt; matches!(answer(&iso, pull(4121600)), Ok(Ok(Verdict::Fail(_)))));
+        assert!(rt; matches!(answer(&iso, bend(1290200, 0)), Ok(Ok(Verdict::Fail(_)))));
+        for (figures, part) in [
+            (pull(4121700), Part::AxialForce),
+            (bend(1290300, 0), Part::InPlaneMoment),
+            (bend(0, 100000000), Part::OutOfPlaneMoment),
+            (bend(1290300, 100000000), Part::InPlaneMoment),
+        ] {
+            assert_eq!(rt; answer(&iso, figures), Ok(Ok(Verdict::Far(part))));
+        }
+        let all = ForceFigures {
             n: -100000000,
-            my: 100000000,
-            mz: -100000000,
-            p: 0,
+            ..bend(100000000, -100000000)
         };
-        assert!(rt; answer(&Api {}, all) == (4, 1, 1));
+        assert_eq!(rt;
+            answer(&Api {}, all),
+            Ok(Ok(Verdict::Far(Part::AxialForce)))
+        );
     }
 
     // Y is spent there by API, but this brace has no share of Y; in-plane, kind 6, is in use whatever the shares.
     #[test]
     fn only_kinds_in_use_can_be_spent(rt: HostRuntime) {
-        let spent_for_y = Load {
-            n: 1000,
-            my: 0,
-            mz: 0,
-            p: -8897,
+        let spent_for_y = ForceFigures {
+            ratios: RatioFigures {
+                p: -8897,
+                ..NO_LOAD
+            },
+            ..pull(1000)
         };
-        let spent_in_plane = Load {
-            n: 1000,
-            my: 0,
-            mz: 0,
-            p: -10000,
+        let spent_in_plane = ForceFigures {
+            ratios: RatioFigures {
+                p: -10000,
+                ..NO_LOAD
+            },
+            ..pull(1000)
         };
-        assert!(rt; is_about(answer(&Api {}, spent_for_y), 1, 5691));
-        assert!(rt; answer(&Iso2007 {}, spent_in_plane) == (5, 6, 0));
-    }
-
-    fn force_fault(figures: ForceFigures) -> (u8, u8) {
-        match Force::new(figures) {
-            Ok(_) => (0, 0),
-            Err(figure) => (figure.number(), figure.field()),
-        }
+        assert!(rt;
+            matches!(answer(&Api {}, spent_for_y), Ok(Ok(Verdict::Pass(e))) if is_about(e, 5691))
+        );
+        let kind = Kind::InPlane;
+        assert_eq!(rt; kind.number(), 6);
+        assert_eq!(rt;
+            answer(&Iso2007 {}, spent_in_plane),
+            Ok(Err(Spent { kind }))
+        );
     }
 
     #[test]
     fn forces_within_a_hundred_million(rt: HostRuntime) {
         let top = 100000000;
-        let whole = figures_of(Load {
+        let ratios = RatioFigures {
+            p: 10000,
+            ..NO_LOAD
+        };
+        let whole = ForceFigures {
             n: top,
             my: -top,
             mz: top,
-            p: 10000,
-        });
-        assert!(rt; force_fault(whole) == (0, 0));
-        assert!(rt;
-            force_fault(ForceFigures {
-                n: top + 1,
-                ..whole
-            }) == (10, 4)
-        );
-        assert!(rt;
-            force_fault(ForceFigures {
-                n: i64::MIN,
-                my: top + 1,
-                ..whole
-            }) == (10, 4)
-        );
-        assert!(rt;
-            force_fault(ForceFigures {
-                my: -top - 1,
-                ..whole
-            }) == (10, 5)
-        );
-        assert!(rt;
-            force_fault(ForceFigures {
-                mz: top + 1,
-                ..whole
-            }) == (10, 6)
-        );
-        assert!(rt; force_fault(ForceFigures { p: 10001, ..whole }) == (10, 7));
-        assert!(rt;
-            force_fault(ForceFigures {
-                mi: -10001,
-                ..whole
-            }) == (10, 8)
-        );
-        assert!(rt; force_fault(ForceFigures { mo: 10001, ..whole }) == (10, 9));
-    }
-
-    fn column(figure: Figure) -> i64 {
-        match figure {
-            Figure::ChordDiameter => 1,
-            Figure::ChordWall => 2,
-            Figure::NominalWall => 3,
-            Figure::ChordYield => 4,
-            Figure::BraceDiameter => 5,
-            Figure::BraceWall => 6,
-            Figure::BraceYield => 7,
-            Figure::Sine => 8,
-            Figure::Gap => 9,
-            Figure::CanLength => 10,
-            Figure::ShareK => 11,
-            Figure::ShareY => 12,
-            Figure::ShareX => 13,
-            Figure::AxialRatio => 14,
-            Figure::InPlaneRatio => 15,
-            Figure::OutOfPlaneRatio => 16,
-            Figure::AxialForce => 17,
-            Figure::InPlaneMoment => 18,
-            Figure::OutOfPlaneMoment => 19,
-        }
-    }
-
-    fn outcome(n: &[i64; 17]) -> i64 {
-        let chord = match Chord::new(ChordFigures {
-            diameter: n[0],
-            wall: n[1],
-            nominal: n[2],
-            fy: n[3],
-        }) {
-            Ok(chord) => chord,
-            Err(figure) => return column(figure),
+            ratios,
         };
-        let figures = BraceFigures {
-            brace: n[4],
-            thickness: n[5],
-            fyb: n[6],
-            sine: n[7],
-            gap: n[8],
-            length: n[9],
-            k: n[10],
-            y: n[11],
-            x: n[12],
+        let p = RatioFigures { p: 10001, ..ratios };
+        let mi = RatioFigures {
+            mi: -10001,
+            ..ratios
         };
-        match BraceRecord::new(chord, figures) {
-            Ok(_) => {}
-            Err(Misfit::Outside(figure)) => return column(figure),
-            Err(Misfit::SharesSum(sum)) => return sum.saturating_add(10000),
-        }
-        match Ratios::new(RatioFigures {
-            p: n[13],
-            mi: n[14],
-            mo: n[15],
-        }) {
-            Ok(_) => 0,
-            Err(figure) => column(figure),
+        let mo = RatioFigures {
+            mo: 10001,
+            ..ratios
+        };
+        let axial = ForceFigures {
+            n: top + 1,
+            ..whole
+        };
+        let both = ForceFigures {
+            n: i64::MIN,
+            my: top + 1,
+            ..whole
+        };
+        let inner = ForceFigures {
+            my: -top - 1,
+            ..whole
+        };
+        let outer = ForceFigures {
+            mz: top + 1,
+            ..whole
+        };
+        assert_eq!(rt; Force::new(whole).err(), None);
+        for (figures, figure, field) in [
+            (axial, Figure::AxialForce, 4),
+            (both, Figure::AxialForce, 4),
+            (inner, Figure::InPlaneMoment, 5),
+            (outer, Figure::OutOfPlaneMoment, 6),
+            (ForceFigures { ratios: p, ..whole }, Figure::AxialRatio, 7),
+            (
+                ForceFigures {
+                    ratios: mi,
+                    ..whole
+                },
+                Figure::InPlaneRatio,
+                8,
+            ),
+            (
+                ForceFigures {
+                    ratios: mo,
+                    ..whole
+                },
+                Figure::OutOfPlaneRatio,
+                9,
+            ),
+        ] {
+            assert_eq!(rt; Force::new(figures).err(), Some(figure));
+            assert_eq!(rt; (figure.number(), figure.field()), (10, field));
         }
     }
 
     #[test]
     fn limits_hold_on_both_sides(rt: HostRuntime) {
-        for row in LIMITS {
-            assert_eq!(rt; outcome(&row), row[16]);
+        for (joint, misfit) in &LIMITS {
+            assert_eq!(rt; joint.records().err(), *misfit, "at {joint:?}");
         }
     }
 }
