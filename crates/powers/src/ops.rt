@@ -30,7 +30,6 @@ pub fn mul(x: Ends, y: Ends) -> Ends
     Ends { low, high }
 }
 
-#[tactic(auto, using(crate::proofs::Nears::sum_near))]
 pub fn add(x: Ends, y: Ends) -> Ends
     ensures { Sum x y result }
 {
@@ -40,7 +39,6 @@ pub fn add(x: Ends, y: Ends) -> Ends
 }
 
 // The difference, each end 0 where it would be less.
-#[tactic(auto, using(crate::proofs::Nears::difference_near))]
 pub fn sub(x: Ends, y: Ends) -> Ends
     ensures { Difference x y result }
 {
@@ -50,7 +48,6 @@ pub fn sub(x: Ends, y: Ends) -> Ends
     }
 }
 
-#[tactic(auto, using(crate::proofs::Nears::greater_near))]
 pub fn greater_of(x: Ends, y: Ends) -> Ends
     ensures { Greater x y result }
 {
