@@ -69,15 +69,15 @@ overflow_add-sum-2 c =
     let s = (sum_fits d).0 in
     simp to_z-of_z (sum_fits d).1
 
-pub returns-then-sum-ne1000 : goal.returns-then-sum-ne1000
-returns-then-sum-ne1000 c =
-    let d = (goal.at.returns-then-sum-ne1000 c).In_ok-within in
+pub returns-then-sum-ne1000-clause-fault : goal.returns-then-sum-ne1000-clause-fault
+returns-then-sum-ne1000-clause-fault c =
+    let d = (goal.at.returns-then-sum-ne1000-clause-fault c).In_ok-within in
     let kf = (k d).fits in
     let yf = (y d).fits in
     let xf = (x d).fits in
     let s = (sum_fits d).0 in
     let t = (sum_fits d).1 in
-    record { fault = simp to_z-of_z (rw (none d) (not_thousand (shares_sum c.args.f) (λ e. simp to_z-of_z at c.if-sum-ne1000.true (thousand_bits (shares_sum c.args.f) e)))); is = tt }
+    simp to_z-of_z (rw (none d) (not_thousand (shares_sum c.args.f) (λ e. simp to_z-of_z at c.if-sum-ne1000.true (thousand_bits (shares_sum c.args.f) e))))
 
 pub overflow_cast-shares : goal.overflow_cast-shares
 overflow_cast-shares c = let d = (goal.at.overflow_cast-shares c).In_ok-within in casts (k d)

@@ -1,4 +1,4 @@
-use Rattle.std.proofs.Common.{◌≡◌, pos, nat_abs, arith, w64, SFits, to_z, of_z, rules}
+use Rattle.std.proofs.Common.{arith, rules}
 use borrow.Author.Differences.{ints}
 use Rattle.records.specs.Limits.{chord_limits}
 use Rattle.records.proofs.Limited.{Holding, held, Whole, cast_is, casts}
