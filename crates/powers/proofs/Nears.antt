@@ -1,15 +1,25 @@
 -- Nearness of sums, products and rounded fractions.
 use Rattle.std.proofs.Common.{◌≡◌, ℕ, ◌+◌, ◌-◌, ◌*◌, ◌/◌, ◌^◌, ◌<◌, ◌≤◌, max, T, ltb, leb, inl, inr, mul-le-mul_right, mul-le-mul, lt_of_mul-lt-mul_right, mul-le-mul_left, div-mul-le_self, le_of_mul-le-mul_right, arith, lit<, ltb→lt, leb→le}
 use native.Mathlib.Nat.{lt-div-mul-add}
+use Rattle.std.specs.Int.{div_ceil}
+use Rattle.std.proofs.lemmas.Grind.{div_ceil_times}
+use Rattle.std.proofs.lemmas.Nat.{le-div, div_below}
 use Rattle.std.proofs.lemmas.Bool.{cases_lt, cond_both, leb-true, leb-false}
 use Rattle.powers.specs.declared.ends.Ends.{Ends}
 use Rattle.powers.specs.declared.quotient.Quotient.{Quotient}
 use Rattle.powers.specs.Fractions.{Fraction, den_positive, ◌≤ᶠ◌, ◌at_most◌}
 use Rattle.powers.specs.Formulas.{Formula, constant, ◌⊕◌, ◌⊖◌, ◌⊗◌, ◌at_least◌, NotAbove, NotBelow}
-use Rattle.powers.proofs.Fractions.{le_trans, mul_mono}
 use Rattle.powers.proofs.Formulas.{meet}
 use Rattle.powers.proofs.Enclosures.{Encloses, mul_encloses, add_encloses, sub_encloses, greater_encloses}
 use Rattle.powers.specs.Enclosures.{units, held, Near, Is, Room}
+
+-- a quotient rounded up, as the library has it and as the operations promise it
+pub rounded_up : (x y : ℕ) → 0 < y → div_ceil x y ≡ (x + (y - 1)) / y
+rounded_up x y p =
+    let t = div_ceil_times x y p in
+    let low : div_ceil x y ≤ (x + (y - 1)) / y = le-div (div_ceil x y) (x + (y - 1)) y p (omega arith) in
+    let high : (x + (y - 1)) / y < div_ceil x y + 1 = div_below (x + (y - 1)) y (div_ceil x y + 1) p (omega arith) in
+    omega arith
 
 pub encloses : {x : Ends} {φ : Formula} {a b n : ℕ} → Near x φ a b n → Encloses x φ
 encloses h = record { low = h.low; high = h.high }
@@ -159,16 +169,6 @@ greater_near x y z l h {φ} {ψ} {a} {b} {m} {c} {d} {n} hx hy =
 pub at_most_near : {z : Ends} (f g : Fraction) {a b n : ℕ} → (f.num * g.den ≤ g.num * f.den → Near z (constant f) a b n) → (g.num * f.den ≤ f.num * g.den → Near z (constant g) a b n) → Near z (constant (f at_most g)) a b n
 at_most_near {z} f g {a} {b} {n} p q =
     cond_both _ f g (λ h. Near z (constant h) a b n) (λ t. p (leb-true _ _ t)) (λ t. q (omega (arith, leb-false _ _ t)))
-
--- a product of constants is a constant
-pub merge : {z : Ends} {f g : Fraction} {a b n : ℕ} (q : Fraction) → q.num * (f.den * g.den) ≡ (f.num * g.num) * q.den → Near z (constant f ⊗ constant g) a b n → Near z (constant q) a b n
-merge {z} {f} {g} q s h = record {
-  low = (let (x, y, hx, hy, p) = h.low in le_trans p (le_trans (mul_mono hx hy) (record { across = omega arith })));
-  high = (let (x, y, hx, hy, p) = h.high in le_trans (record { across = omega arith }) (le_trans (mul_mono hx hy) p));
-  least = h.least;
-  most = h.most;
-  tight = h.tight;
-}
 
 -- a bound of the formula is a bound of the low end, but for the width
 pub lift : {z : Ends} {φ : Formula} {a b n : ℕ} (l k : ℕ) → NotAbove φ (units l) → k * (2 ^ 40 + n) ≤ l * 2 ^ 40 → Near z φ a b n → Near z φ k b n

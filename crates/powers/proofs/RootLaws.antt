@@ -2,9 +2,11 @@
 use Rattle.std.proofs.Common.{◌≡◌, ℕ, ◌+◌, ◌-◌, ◌*◌, ◌/◌, ◌^◌, ◌<◌, ◌≤◌, T, ltb, ap, mul-le-mul_right, le_of_mul-le-mul_right, arith, lit<, ltb→lt}
 use Rattle.powers.specs.declared.ends.Ends.{Ends}
 use Rattle.powers.specs.declared.quotient.Quotient.{Quotient}
+use Rattle.powers.specs.declared.up_to_one.UpToOne.{UpToOne}
 use Rattle.powers.specs.Fractions.{Fraction, quotient, number, ◌*ᶠ◌, ◌+ᶠ◌}
 use Rattle.powers.specs.Formulas.{constant, power, ◌⊗◌}
-use Rattle.powers.specs.Enclosures.{units, Near, Is, Exact, UpToOne}
+use Rattle.powers.specs.Enclosures.{units, Near, Is, Exact}
+use Rattle.powers.specs.Enclosures.{UpToOne as IsUpToOne}
 use Rattle.powers.proofs.Fractions.{le_trans, pow_mono}
 use Rattle.powers.proofs.Powers.{lower, raise, product_above, product_below, exponent_same, exponent_same_below}
 use Rattle.powers.proofs.Enclosures.{Encloses, root_encloses, pow_one, pow_two}
@@ -69,8 +71,12 @@ square_near r z x l h p o q a b s u v t =
     (omega arith)
     (record { across = simp (pow_one, pow_two) (omega arith) }) (record { across = simp (pow_one, pow_two) (omega arith) }) (ltb→lt 1 a t)
 
+-- what the type says of its quotient
+pub in_range : (x : UpToOne) → IsUpToOne x.quotient
+in_range x = record { most = x.most; least = x.least; short = x.short }
+
 pub fifth_near : (r : Quotient) (z : Ends) (x : ℕ) → z.low ≡ x * 131072 → z.high ≡ (x + 1) * 131072 → x ^ 5 ≤ r.num * 2 ^ 115 / r.den → r.num * 2 ^ 115 / r.den < (x + 1) ^ 5
-    → (q : Fraction) → Is q r → UpToOne r → Near z (power q (number 1 5)) 796046287437 1099511758848 181039
+    → (q : Fraction) → Is q r → IsUpToOne r → Near z (power q (number 1 5)) 796046287437 1099511758848 181039
 fifth_near r z x l h p o q s up =
     let u = bound_is_above 1 1 q r s (omega (arith, up.most)) in
     let v = bound_is 1 5 q r s (omega (arith, up.least)) in
@@ -80,7 +86,7 @@ fifth_near r z x l h p o q s up =
     (record { across = simp pow_one (omega arith) }) (record { across = simp pow_one (omega arith) }) (lit< tt)
 
 -- a quotient up to 1 as its own first power
-pub first_power : (r : Quotient) (z : Ends) (q : Fraction) → Exact r z → Is q r → UpToOne r → Near z (power q (number 1 1)) 219902325554 1099511627777 6
+pub first_power : (r : Quotient) (z : Ends) (q : Fraction) → Exact r z → Is q r → IsUpToOne r → Near z (power q (number 1 1)) 219902325554 1099511627777 6
 first_power r z q e same up =
     let lo = bound_is 1 5 q r same (omega (arith, up.least)) in
     let hi = bound_is_above 1 1 q r same (omega (arith, up.most)) in

@@ -7,5 +7,6 @@ pub mod quotient;
 pub mod raise;
 pub mod roots;
 pub mod theorems;
+mod up_to_one;
 mod walk;
 mod walked;

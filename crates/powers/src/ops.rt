@@ -3,36 +3,30 @@
 ghost use Rattle.std.specs.Prelude.{◌≡◌};
 ghost use Rattle.powers.specs.Enclosures.{held, Exact, Product, Sum, Difference, Greater};
 
-use crate::ends::Ends;
+use crate::ends::{Ends, UNIT};
 use crate::quotient::Quotient;
-
-const UNIT: u128 = 1099511627776;
 
 fn fitted(x: u128) -> u64
     ensures { result ≡ held x }
 {
-    if x <= 18446744073709551615 {
-        x as u64
-    } else {
-        18446744073709551615
-    }
+    u64::try_from(x).unwrap_or(u64::MAX)
 }
 
 // The ends of an exact quotient.
 pub fn exact(r: Quotient) -> Ends
     ensures { Exact r result }
 {
-    let scaled = r.num as u128 * UNIT;
+    let scaled = r.num as u128 * UNIT as u128;
     let low = fitted(scaled / r.den as u128);
-    let high = fitted((scaled + (r.den as u128 - 1)) / r.den as u128);
+    let high = fitted(scaled.div_ceil(r.den as u128));
     Ends { low, high }
 }
 
 pub fn mul(x: Ends, y: Ends) -> Ends
     ensures { Product x y result }
 {
-    let low = fitted(x.low as u128 * y.low as u128 / UNIT);
-    let high = fitted((x.high as u128 * y.high as u128 + (UNIT - 1)) / UNIT);
+    let low = fitted(x.low as u128 * y.low as u128 / UNIT as u128);
+    let high = fitted((x.high as u128 * y.high as u128).div_ceil(UNIT as u128));
     Ends { low, high }
 }
 

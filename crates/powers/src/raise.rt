@@ -4,7 +4,6 @@ ghost use Rattle.powers.specs.Enclosures.{Raised};
 use crate::ends::Ends;
 use crate::ops::{exact, mul};
 use crate::quotient::Quotient;
-use crate::roots::open_ends;
 use crate::walk::step;
 use crate::walked::Walked;
 
@@ -17,18 +16,15 @@ pub fn power_below(base: Quotient, exponent: Quotient) -> Ends
         || base.num as u128 > 64 * base.den as u128
         || exponent.num >= exponent.den
     {
-        return open_ends();
+        return Ends::OPEN;
     }
     let start = exact(base);
-    let one = Ends {
-        low: 1099511627776,
-        high: 1099511627776,
-    };
     let mut at = Walked {
         root: start,
-        product: one,
+        product: Ends::ONE,
     };
     let mut rest = exponent.num as u128;
+    // After j turns the digits so far are taken; the proof counts by j.
     for j in 0..32u32 {
         let digit = 2 * rest >= exponent.den as u128;
         at = step(at, digit);

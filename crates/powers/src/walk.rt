@@ -1,13 +1,11 @@
 // One binary digit of an exponent at a time.
 ghost use Rattle.powers.specs.Digits.{Halved, Stepped};
 
-use crate::ends::Ends;
+use crate::ends::{Ends, UNIT};
 use crate::ops::mul;
 use crate::roots::{floor_root, guessed_root};
 use crate::walked::Walked;
 use std::num::nearest_u64_to_f64;
-
-const UNIT: u64 = 1099511627776;
 
 // About the square root of x units: near 1 by the first terms of its series, in 256ths of a unit. No proof rests on it.
 fn guess(x: u64) -> u64 {
@@ -23,7 +21,7 @@ fn guess(x: u64) -> u64 {
             .wrapping_sub(fourth);
         return (UNIT - 1).wrapping_add(sum.wrapping_add(255) >> 8);
     }
-    guessed_root(nearest_u64_to_f64(x) / 1099511627776.0)
+    guessed_root(nearest_u64_to_f64(x) / UNIT as f64)
 }
 
 // The square root of ends that are at least 1 and at most two units apart.

@@ -58,9 +58,9 @@ module _ (c : goal.After-mul-above) where
       (c.loop-j.invariant.1.1 q (from_one q c.args.base same from) (up_to_64 q c.args.base same to)
       (begin c.args.base c.exact-start.result _ q refl refl same from to c.exact-start.ensures))
 
-pub invariant_of-result : goal.invariant_of-result
-invariant_of-result c =
-    let d = (goal.at.invariant_of-result c).After-mul-above in
+pub invariant_of-result-2 : goal.invariant_of-result-2
+invariant_of-result-2 c =
+    let d = (goal.at.invariant_of-result-2 c).After-mul-above in
     let q = as_fraction c.args.base in
     record {
       ordered = ordered q c.args.exponent (as_fraction c.args.exponent) c.loop-j.at c.mul-above.result c.loop-j.invariant.1.0 c.loop-j.rest refl
