@@ -3,20 +3,19 @@ use Rattle.std.proofs.Common.{◌≡◌, ℕ, suc, ◌+◌, ◌-◌, ◌*◌, �
 use borrow.Author.Differences.{up, down, ints}
 use Rattle.records.specs.declared.ratios.Ratios.{Ratios}
 use Rattle.records.specs.Signs.{size}
-use Rattle.editions.specs.declared.coefficients.Coefficients.{Coefficients}
 use Rattle.editions.specs.declared.coefficients.Weights.{Weights}
 use Rattle.editions.specs.declared.coefficients.Signs.{Signs}
 use Rattle.powers.specs.declared.quotient.Quotient.{Quotient}
-use Rattle.editions.specs.Chords.{ChordFactor, spent, api_q_f, iso_q_f, Left, Split, axial_square, bending_square}
+use Rattle.editions.specs.Chords.{ChordFactor, ChordCoefficients, spent, api_q_f, iso_q_f, Left, Split, axial_square, bending_square}
 
 pub square_reads : (p : ℤ) → pos (size p * size p) ≡ p *ℤ p
 square_reads (pos n) = omega (arith, ints)
 square_reads (negsuc n) = omega (arith, ints)
 
-abbrev pub gain : Coefficients → Signs → ℕ
+abbrev pub gain : ChordCoefficients → Signs → ℕ
 gain c s = 1000000000 * c.over + 10000 * (c.rise * s.tension + c.fall * s.compression + c.close * s.opening)
 
-abbrev pub loss : Coefficients → Signs → ℕ
+abbrev pub loss : ChordCoefficients → Signs → ℕ
 loss c s = 10000 * (c.rise * s.compression + c.fall * s.tension + c.close * s.closing) + c.square * (axial_square s + bending_square s)
 
 -- c1 is rise less fall
@@ -32,21 +31,18 @@ qf_reads n rise fall close square c1 e (negsuc p) (pos mi) (negsuc mo) = omega (
 qf_reads n rise fall close square c1 e (negsuc p) (negsuc mi) (pos mo) = omega (arith, ints, ap (λ (k : ℕ). k * suc p) e)
 qf_reads n rise fall close square c1 e (negsuc p) (negsuc mi) (negsuc mo) = omega (arith, ints, ap (λ (k : ℕ). k * suc p) e)
 
-pub api_reads : (c : Coefficients) (q : Ratios) (s : Signs) → Split q s → pos (gain c s) -ℤ pos (loss c s) ≡ (api_q_f c q).num
+pub api_reads : (c : ChordCoefficients) (q : Ratios) (s : Signs) → Split q s → pos (gain c s) -ℤ pos (loss c s) ≡ (api_q_f c q).num
 api_reads c q s h =
     rw (h.tension, h.compression, h.closing, h.opening, h.side)
     (qf_reads c.over c.rise c.fall c.close c.square (pos c.rise -ℤ pos c.fall) (omega (arith, ints)) q.p q.mi q.mo)
 
 abbrev pub iso_loss : Weights → Signs → ℕ
-iso_loss c s = c.w * c.axial * axial_square s + c.w * c.bending * bending_square s
+iso_loss c s = c.w * (c.axial * axial_square s + c.bending * bending_square s)
 
 iso_qf_reads : (w a b : ℕ) (p mi mo : ℤ)
-    → pos 100000000000 -ℤ pos (w * a * (size p * size p) + w * b * (size mi * size mi + size mo * size mo))
+    → pos 100000000000 -ℤ pos (w * (a * (size p * size p) + b * (size mi * size mi + size mo * size mo)))
     ≡ pos 100000000000 -ℤ (pos w *ℤ (pos a *ℤ (p *ℤ p) +ℤ pos b *ℤ (mi *ℤ mi +ℤ mo *ℤ mo)))
-iso_qf_reads w a b p mi mo = rw (← square_reads p, ← square_reads mi, ← square_reads mo) (rw (same (size p * size p) (size mi * size mi) (size mo * size mo)))
-  where
-    same : (s t u : ℕ) → w * a * s + w * b * (t + u) ≡ w * (a * s + b * (t + u))
-    same s t u = omega arith
+iso_qf_reads w a b p mi mo = rw (← square_reads p, ← square_reads mi, ← square_reads mo) refl
 
 pub iso_reads : (c : Weights) (q : Ratios) (s : Signs) → Split q s → pos 100000000000 -ℤ pos (iso_loss c s) ≡ (iso_q_f c q).num
 iso_reads c q s h = rw (h.tension, h.compression, h.closing, h.opening, h.side) (iso_qf_reads c.w c.axial c.bending q.p q.mi q.mo)

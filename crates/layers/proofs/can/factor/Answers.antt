@@ -8,7 +8,8 @@ invariant_of-result-2 c =
     let r = c.args.r.now in
     let s = c.at_most_all.result in
     let h = r.thinned in
-    record { most = blend_most s.quotient.num s.quotient.den (r.can.nominal * r.can.nominal) (r.wall * r.wall) s.most (mul-le-mul h.1 h.1) }
+    let hi : r.can.nominal * r.can.nominal ≤ r.wall * r.wall = mul-le-mul h.1 h.1 in
+    record { most = blend_most s.quotient.num s.quotient.den _ _ s.most (omega arith) }
 
 pub returns-clause-is : goal.returns-clause-is
 returns-clause-is c =
