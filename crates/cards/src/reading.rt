@@ -8,6 +8,7 @@ ghost use Rattle.cards.specs.CardTexts.{card_text, Readable};
 
 use crate::card::{Card, CardFault, NumberFault, PileNumbers};
 use crate::pieces::Pieces;
+use crate::pieces::parting::count_fields;
 use crate::word::{Word, placed_word};
 use records::limits::{BraceFigures, ChordFigures, RatioFigures};
 use verdicts::forces::ForceFigures;
@@ -104,7 +105,7 @@ fn parse(line: &[u8], ready: bool) -> Result<Card, CardFault>
     let Some(word) = placed_word(first.bytes, ready) else {
         return Err(CardFault::NoWord);
     };
-    let count = Pieces::fields(line).count();
+    let count = count_fields(line);
     if count != word.count() {
         return Err(CardFault::WrongCount(count as u8));
     }

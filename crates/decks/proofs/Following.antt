@@ -18,26 +18,26 @@ reads_more l r m at (next {n = n} {rest = rest} q u w more) t =
     next q u (ap (λ x. x ++ answer_text m r) w ∙ append_assoc (answer_text n q) rest (answer_text m r)) (reads_more l r m (omega arith) more t)
 
 -- The lines so far, the text that they print, and those that are left.
-pub record Sofar (input rest text : List ℕ) (count : ℕ) (d : Desk) : Type 0 where
+pub record Sofar (input : List ℕ) (rest : List (List ℕ)) (text : List ℕ) (count : ℕ) (d : Desk) : Type 0 where
   pub before : List (List ℕ)
-  pub split : before ++ lines_of rest ≡ lines_of input
+  pub split : before ++ rest ≡ lines_of input
   pub counted : count ≡ length before
   pub reads : Reads closed 1 before text d
 
-pub sofar_none : (input text : List ℕ) (count : ℕ) (d : Desk) → text ≡ [] → count ≡ 0 → d ≡ closed → Sofar input input text count d
-sofar_none input text count d t c is = record { before = []; split = refl; counted = c; reads = rw t (end is) }
+pub sofar_none : (input : List ℕ) (rest : List (List ℕ)) (text : List ℕ) (count : ℕ) (d : Desk) → rest ≡ lines_of input → text ≡ [] → count ≡ 0 → d ≡ closed → Sofar input rest text count d
+sofar_none input rest text count d whole t c is = record { before = []; split = whole; counted = c; reads = rw t (end is) }
 
-pub sofar_more : (input rest after text more : List ℕ) (count next_count number : ℕ) (d e : Desk) (l : List ℕ) (r : Result (Option CheckLine) Fault) → Sofar input rest text count d
-    → lines_of rest ≡ l ∷ lines_of after → number ≡ count + 1 → next_count ≡ count + 1 → Takes d l r e → more ≡ text ++ answer_text number r → Sofar input after more next_count e
+pub sofar_more : (input : List ℕ) (rest after : List (List ℕ)) (text more : List ℕ) (count next_count number : ℕ) (d e : Desk) (l : List ℕ) (r : Result (Option CheckLine) Fault) → Sofar input rest text count d
+    → rest ≡ l ∷ after → number ≡ count + 1 → next_count ≡ count + 1 → Takes d l r e → more ≡ text ++ answer_text number r → Sofar input after more next_count e
 sofar_more input rest after text more count next_count number d e l r so first n c t w = record {
   before = so.before ++ l ∷ [];
-  split = append_assoc so.before (l ∷ []) (lines_of after) ∙ ap (λ x. so.before ++ x) (sym first) ∙ so.split;
+  split = append_assoc so.before (l ∷ []) after ∙ ap (λ x. so.before ++ x) (sym first) ∙ so.split;
   counted = c ∙ sym (length_push so.before l ∙ ap (λ k. k + 1) (sym so.counted));
   reads = rw w (reads_more l r number (omega (arith, so.counted)) so.reads t);
 }
 
-pub deck_whole : (input rest text last out : List ℕ) (count : ℕ) (d : Desk) → Sofar input rest text count d → rest ≡ [] → Ends d last → out ≡ text ++ last → Deck input out
+pub deck_whole : (input : List ℕ) (rest : List (List ℕ)) (text last out : List ℕ) (count : ℕ) (d : Desk) → Sofar input rest text count d → rest ≡ [] → Ends d last → out ≡ text ++ last → Deck input out
 deck_whole input rest text last out count d so none ends whole =
-    let all : so.before ≡ lines_of input = sym (append-nil so.before) ∙ ap (λ x. so.before ++ lines_of x) (sym none) ∙ so.split in
+    let all : so.before ≡ lines_of input = sym (append-nil so.before) ∙ ap (λ x. so.before ++ x) (sym none) ∙ so.split in
     let reads = subst (λ ls. Reads closed 1 ls text d) all so.reads in
     record { desk = d; text = text; last = last; reads = reads; ends = ends; whole = whole; binding = reads_bind reads tt }

@@ -9,8 +9,8 @@ ghost use Rattle.decks.specs.Responses.{Ends, Responds};
 use crate::fault::{LineFault, Stop};
 use crate::output::worst_line;
 use crate::session::Session;
-use cards::line::Line;
-use cards::lines::Lines;
+use cards::piece::Piece;
+use cards::pieces::Pieces;
 use std::alloc::{AllocError, Global};
 
 // What an input of more than 32,768 bytes is answered with.
@@ -18,7 +18,7 @@ pub const TOO_LONG: &str = "REFUSED,0,17,0\n";
 
 impl Session {
     // What a line prints.
-    fn answer(&mut self, line: Line<'_>) -> Result<String, AllocError>
+    fn answer(&mut self, line: Piece<'_>) -> Result<String, AllocError>
         ensures { IfOk result (λ s. (q : Answer (Perhaps ACheckLine) LinesFault) × Takes (desk_of self.old) line.entry.bytes.now q (desk_of self.new) × (string_bytes s ≡ answer_text line.entry.number q)) }
     {
         match self.take(line.bytes) {
@@ -55,7 +55,7 @@ pub fn respond(heap: Global, input: &[u8]) -> Result<String, AllocError>
     }
     let mut session = Session::new(heap);
     let mut out = String::new(heap);
-    for line in Lines::new(input) {
+    for line in Pieces::lines(input) {
         let text = session.answer(line)?;
         out.push_str(text.as_str())?;
     }

@@ -13,10 +13,7 @@ fn fill(rt: &HostRuntime, buffer: &mut [u8]) -> io::Result<usize>
 {
     let mut input = rt.stdin();
     let mut n = 0;
-    for _ in 0..u64::MAX {
-        if n == buffer.len() {
-            break;
-        }
+    while n < buffer.len() {
         let k = input.read(&mut buffer[n..])?;
         if k == 0 {
             break;

@@ -67,3 +67,11 @@ impl<'a> Iterator for Pieces<'a> {
         })
     }
 }
+
+// How many fields a line has.
+#[tactic(auto, using(crate::proofs::Counting::pieces_count, crate::proofs::Cuts::fields_few))]
+pub fn count_fields(line: &[u8]) -> usize
+    ensures { result ≡ length (fields_of line.now) }
+{
+    Pieces::fields(line).count()
+}

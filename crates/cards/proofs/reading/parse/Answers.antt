@@ -1,9 +1,8 @@
-use Rattle.std.proofs.Common.{◌≡◌, ◌∷◌, length, inl, sym, ap, ◌∙◌, arith}
+use Rattle.std.proofs.Common.{◌≡◌, ◌∷◌, length, sym, ap, ◌∙◌, arith}
 use Rattle.cards.specs.Pieces.{fields_of}
 use Rattle.cards.specs.Words.{count}
 use Rattle.cards.specs.Readers.{left}
 use Rattle.cards.proofs.Cuts.{fields_few}
-use Rattle.cards.proofs.Counting.{pieces_count}
 use Rattle.cards.proofs.Shapes.{too_long, no_word, wrong_count, numbered}
 use Rattle.cards.proofs.reading.parse.Goals as goal
 
@@ -14,22 +13,17 @@ pub returns-in_default-placed_word : goal.returns-in_default-placed_word
 returns-in_default-placed_word c =
     no_word c.args.ready c.args.line.now c.in-Some.first.bytes.now (left c.next.new.self) c.if-line-gt120.false (sym c.fields-fields.ensures.1 ∙ c.in-Some.ensures.steps.first) (sym c.in_default-placed_word.ensures)
 
-pub count-count-requires-clause-fits : goal.count-count-requires-clause-fits
-count-count-requires-clause-fits c = inl (omega (arith, ap length c.fields.ensures.1, fields_few c.args.line.now, c.if-line-gt120.false))
-
 pub overflow_cast-result : goal.overflow_cast-result
-overflow_cast-result c = omega (arith, ap length c.fields.ensures.1, fields_few c.args.line.now, c.count-count.ensures.bound)
+overflow_cast-result c = omega (arith, fields_few c.args.line.now, c.count_fields-count.ensures)
 
 pub returns-then-count : goal.returns-then-count
 returns-then-count c =
-    let counted = pieces_count _ _ _ c.count-count.ensures.ran.1 c.count-count.ensures.ran.2 ∙ ap length c.fields.ensures.1 in
-    wrong_count c.args.ready c.args.line.now c.in-Some.first.bytes.now (left c.next.new.self) c.if-line-gt120.false (sym c.fields-fields.ensures.1 ∙ c.in-Some.ensures.steps.first) c.in-Some-placed_word.word (sym c.in-Some-placed_word.ensures) c.count-count.result counted
+    wrong_count c.args.ready c.args.line.now c.in-Some.first.bytes.now (left c.next.new.self) c.if-line-gt120.false (sym c.fields-fields.ensures.1 ∙ c.in-Some.ensures.steps.first) c.in-Some-placed_word.word (sym c.in-Some-placed_word.ensures) c.count_fields-count.result c.count_fields-count.ensures
     (λ e. c.if-count.true (e ∙ sym c.count.ensures))
 
 pub returns : goal.returns
 returns c =
     let line = c.args.line.now in
     let split : fields_of line ≡ c.in-Some.first.bytes.now ∷ left c.next.new.self = sym c.fields-fields.ensures.1 ∙ c.in-Some.ensures.steps.first in
-    let counted : length (fields_of line) ≡ count c.in-Some-placed_word.word =
-    sym (pieces_count _ _ _ c.count-count.ensures.ran.1 c.count-count.ensures.ran.2 ∙ ap length c.fields.ensures.1) ∙ c.if-count.false ∙ c.count.ensures in
+    let counted : length (fields_of line) ≡ count c.in-Some-placed_word.word = sym c.count_fields-count.ensures ∙ c.if-count.false ∙ c.count.ensures in
     c.card.ensures (omega (arith, ap length split, counted)) ∙ sym (numbered c.args.ready line c.in-Some.first.bytes.now (left c.next.new.self) c.if-line-gt120.false split c.in-Some-placed_word.word (sym c.in-Some-placed_word.ensures) counted)

@@ -1,8 +1,8 @@
-use Rattle.std.proofs.Common.{◌++◌, string_bytes, sym, ap, ◌∙◌, subst, arith}
+use Rattle.std.proofs.Common.{◌++◌, string_bytes, ap, ◌∙◌, arith}
 use Rattle.layers.proofs.Laws.{pile_usable}
-use Rattle.cards.specs.Lines.{left, seen}
+use Rattle.cards.specs.Readers.{left, seen}
 use Rattle.decks.specs.Sessions.{desk_of}
-use Rattle.decks.proofs.Following.{Sofar, sofar_none, sofar_more, deck_whole}
+use Rattle.decks.proofs.Following.{sofar_none, sofar_more, deck_whole}
 use Rattle.decks.proofs.respond.respond.Goals as goal
 
 pub loop-line-init : goal.loop-line-init
@@ -10,8 +10,8 @@ loop-line-init c =
     let it = c.into_iter-line-iterator.result in
     let is = c.into_iter-line-iterator.ensures.into_iter_gives in
     let input = c.args.input.now in
-    let n = c.new-line-items.ensures in
-    (tt, tt, subst (λ x. Sofar input x (string_bytes c.new-out.result) (seen it) (desk_of c.new-session.result)) (sym (ap left is ∙ n.1)) (sofar_none input _ _ _ c.new-out.ensures.bytes (ap seen is ∙ n.2) c.new-session.ensures))
+    let begins = c.lines-line-items.ensures in
+    (tt, tt, sofar_none input (left it) _ (seen it) _ (ap left is ∙ begins.1) c.new-out.ensures.bytes (ap seen is ∙ begins.2) c.new-session.ensures)
 
 pub loop-line-preserved : goal.loop-line-preserved
 loop-line-preserved c =

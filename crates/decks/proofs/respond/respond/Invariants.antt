@@ -1,5 +1,5 @@
 use Rattle.std.proofs.Common.{string_bytes}
-use Rattle.cards.specs.Lines.{left, seen}
+use Rattle.cards.specs.Readers.{left, seen}
 use Rattle.decks.specs.Sessions.{desk_of}
 use Rattle.decks.proofs.Following.{Sofar}
 use Rattle.decks.proofs.respond.respond.Given as goal
