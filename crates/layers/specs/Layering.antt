@@ -119,15 +119,15 @@ blended a x c y u v k =
     omega (arith, ap (λ (t : ℕ). ((c + y) * v) * t) p)
 
 -- a share of 1 and the rest of u / v: the share is a / b, or c / d as a fraction
-module _ (a b c d u v : ℕ) (is : c * b ≡ a * d) (ab : a ≤ b) (cd : c ≤ d) where
-  pub blend_is : (c * ((1 * d) * v) + ((1 * d - c * 1) * u) * d) * (b * v) ≡ (a * v + (b - a) * u) * (d * ((1 * d) * v))
-  blend_is = core (b - a) (1 * d - c * 1) (omega arith) (omega arith)
-    where
-      core : (x y : ℕ) → a + x ≡ b → c + y ≡ d → (c * ((1 * d) * v) + (y * u) * d) * (b * v) ≡ (a * v + x * u) * (d * ((1 * d) * v))
-      core x y e f =
-          let k : c * x ≡ a * y = omega (arith, ap (λ (t : ℕ). c * t) e, ap (λ (t : ℕ). a * t) f) in
-          rw (← e, ← f) (blended a x c y u v k)
+pub blend_is : (a b c d u v : ℕ) → c * b ≡ a * d → a ≤ b → c ≤ d → (c * ((1 * d) * v) + ((1 * d - c * 1) * u) * d) * (b * v) ≡ (a * v + (b - a) * u) * (d * ((1 * d) * v))
+blend_is a b c d u v is ab cd = core (b - a) (1 * d - c * 1) (omega arith) (omega arith)
+  where
+    core : (x y : ℕ) → a + x ≡ b → c + y ≡ d → (c * ((1 * d) * v) + (y * u) * d) * (b * v) ≡ (a * v + x * u) * (d * ((1 * d) * v))
+    core x y e f =
+        let k : c * x ≡ a * y = omega (arith, ap (λ (t : ℕ). c * t) e, ap (λ (t : ℕ). a * t) f) in
+        rw (← e, ← f) (blended a x c y u v k)
 
+module _ (a b u v : ℕ) (ab : a ≤ b) where
   pub blend_least : v ≤ 4 * u → b * v ≤ 4 * (a * v + (b - a) * u)
   blend_least h =
       let e : a + (b - a) ≡ b = omega arith in
