@@ -27,6 +27,12 @@ module _ (j : ℤ) (f : ChordFigures) (l : Ledger) (n : ℕ) (number : number_fr
   pub enter_limits : enter_cause j f l ≡ figure_cause (first_figure_outside (chord_limits f))
   enter_limits = ap (λ o. enter_at o f l) number ∙ cond-false _ _ _ free ∙ cond-false _ _ _ room
 
+pub add_outside : (j b : ℤ) (f : BraceFigures) (l : Ledger) (e : Refusal) → numbers_from j b ≡ Err e → add_cause j b f l ≡ Some (cause e)
+add_outside j b f l e h = ap (λ r. add_at r f l) h
+
+pub add_taken : (j b : ℤ) (f : BraceFigures) (l : Ledger) (n m : ℕ) → numbers_from j b ≡ Ok (n, m) → is_some (find (is_brace n m) l.braces) ≡ true → add_cause j b f l ≡ Some (because 4 (pos 3))
+add_taken j b f l n m h t = ap (λ r. add_at r f l) h ∙ cond-true _ _ _ t
+
 module _ (j b : ℤ) (f : BraceFigures) (l : Ledger) (n m : ℕ) (numbers : numbers_from j b ≡ Ok (n, m)) (free : is_some (find (is_brace n m) l.braces) ≡ false) where
   add_past : add_cause j b f l ≡ first_cause ((not (is_some (find (is_joint n) l.joints)), because 5 (pos 2)) ∷ (leb 96 (length l.braces), because 6 (pos 96)) ∷ (leb 8 (count_by (at_joint n) l.braces), because 6 (pos 8)) ∷ []) (brace_cause (find (is_joint n) l.joints) f)
   add_past = ap (λ r. add_at r f l) numbers ∙ cond-false _ _ _ free

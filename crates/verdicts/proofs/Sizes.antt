@@ -1,14 +1,8 @@
 -- Bounds of the numbers that a check works with.
-use Rattle.std.proofs.Common.{◌≡◌, ℕ, ◌+◌, ◌-◌, ◌*◌, ◌/◌, ◌<◌, ◌≤◌, sym, subst, mul-le-mul, mul-le-mul_left, div-mul-le_self, le_of_mul-le-mul_right, arith}
+use Rattle.std.proofs.Common.{◌≡◌, ℕ, ◌+◌, ◌-◌, ◌*◌, ◌/◌, ◌<◌, ◌≤◌, sym, subst, mul-le-mul_left, div-mul-le_self, le_of_mul-le-mul_right, arith}
 use Rattle.std.specs.Int.{div_ceil}
 use Rattle.std.proofs.lemmas.Grind.{div_ceil_times}
 use native.Mathlib.Nat.{lt-div-mul-add}
-
-pub wall_least : (f w : ℕ) → 200 ≤ f → 60 ≤ w → 720000 ≤ f * (w * w)
-wall_least f w h g = mul-le-mul h (mul-le-mul g g)
-
-pub wall_most : (f w : ℕ) → f ≤ 500 → w ≤ 2000 → f * (w * w) ≤ 2000000000
-wall_most f w h g = mul-le-mul h (mul-le-mul g g)
 
 module _ (k y x : ℕ) (shared : k + y + x ≡ 1000) where
   pub sum_least : (a b c : ℕ) → 10000 ≤ a → 10000 ≤ b → 10000 ≤ c → 10000000 ≤ k * a + y * b + x * c
@@ -30,10 +24,6 @@ scaled_near s a a' p = omega (arith, mul-le-mul_left s p)
 -- an edition's width of at most 700 parts in a million
 pub told_near : (low high width : ℕ) → low ≤ high → width ≤ 700 → (high - low) * 1000000 ≤ low * width → high * 1000000 ≤ low * 1000700
 told_near low high width o w h = omega (arith, mul-le-mul_left low w)
-
--- load ≤ 10 ^ 25
-pub load_most : (load sine : ℕ) → load ≤ 100000000 → sine ≤ 1000000 → load * sine * 100000000000 ≤ 10000000000000000000000000
-load_most load sine p q = omega (arith, mul-le-mul p q)
 
 -- the ends of a quotient, and how far they lie apart
 module _ (load low high : ℕ) (firm : 0 < low) (order : low ≤ high) where

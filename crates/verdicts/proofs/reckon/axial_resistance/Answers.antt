@@ -2,20 +2,6 @@ use Rattle.std.proofs.Common.{mul-le-mul, mul-le-mul_left, arith}
 use Rattle.verdicts.proofs.Sizes.{sum_least, sum_most, sum_order, sum_near, scaled_near, sized_at}
 use Rattle.verdicts.proofs.reckon.axial_resistance.Goals as goal
 
-pub overflow_mul-result : goal.overflow_mul-result
-overflow_mul-result c =
-    let b = c.args.brace.now in
-    let s = c.args.c.now in
-    let h = mul-le-mul c.base-base.ensures.most (sum_most b.shares.k b.shares.y b.shares.x b.shares.whole s.k.low s.y.low s.x.low (omega arith) (omega arith) (omega arith)) in
-    rw c.shared-low.ensures (omega arith)
-
-pub overflow_mul-result-2 : goal.overflow_mul-result-2
-overflow_mul-result-2 c =
-    let b = c.args.brace.now in
-    let s = c.args.c.now in
-    let h = mul-le-mul c.base-base.ensures.most (sum_most b.shares.k b.shares.y b.shares.x b.shares.whole s.k.high s.y.high s.x.high (omega arith) (omega arith) (omega arith)) in
-    rw c.shared-high.ensures (omega arith)
-
 pub invariant_of-result : goal.invariant_of-result
 invariant_of-result c =
     let b = c.args.brace.now in

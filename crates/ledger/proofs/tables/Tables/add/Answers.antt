@@ -2,8 +2,16 @@ use Rattle.std.proofs.Common.{◌≡◌, Ok, refl, ap, ◌∙◌, subst, arith, 
 use Rattle.std.proofs.lemmas.Bool.{lt-leb}
 use Rattle.records.specs.Limits.{IsBrace}
 use Rattle.ledger.specs.Ledger.{holding, numbers_from, misfit_cause, Added}
-use Rattle.ledger.proofs.Steps.{passed, numbered, add_nowhere, add_full, add_crowded, add_limits}
+use Rattle.ledger.proofs.Steps.{passed, numbered, add_outside, add_taken, add_nowhere, add_full, add_crowded, add_limits}
 use Rattle.ledger.proofs.tables.Tables.add.Goals as goal
+
+pub returns-in_err-n : goal.returns-in_err-n
+returns-in_err-n c =
+    passed _ (Added c.args.joint c.args.brace c.args.figures (holding c.args.self.now) (holding c.args.self.now)) (holding c.args.self.now) _ _ c.from_residual.ensures.1
+    (add_outside c.args.joint c.args.brace c.args.figures (holding c.args.self.now) c.in_err-n.field-0.0 (search rules))
+
+pub returns-then-is_ok : goal.returns-then-is_ok
+returns-then-is_ok c = (add_taken c.args.joint c.args.brace c.args.figures (holding c.args.self.now) c.in_ok-n.n c.in_ok-n.number (search rules) (search rules), refl)
 
 pub returns-in_err-i : goal.returns-in_err-i
 returns-in_err-i c =
