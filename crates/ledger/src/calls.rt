@@ -200,7 +200,7 @@ impl Tables {
         Ok(())
     }
 
-    // In order of adding, keeping the first that reaches highest. An indexed `for` and no fold: this project's rule is that the walk over the braces shows its places.
+    // In order of adding, keeping the first that reaches highest. It is an indexed `for`, and no fold, by a rule of the project.
     pub fn worst(&self) -> Result<Worst, Refusal>
         ensures worst { WorstOf (holding self.now).braces result }
         ensures names { Names (holding self.now) result }
