@@ -1,4 +1,4 @@
-// What a book is asked, and what it answers where it doesn't refuse.
+// What a book is asked, and what it answers where it does not refuse.
 use ledger::entries::Worst;
 use records::limits::{BraceFigures, ChordFigures};
 use verdicts::forces::ForceFigures;

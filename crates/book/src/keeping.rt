@@ -20,9 +20,10 @@ use verdicts::forces::ForceFigures;
 use verdicts::reckon::verdict;
 use verdicts::verdict::Verdict;
 
-// The widest width, in parts in a million, and the least floor, in millionths, that a book is kept by.
+// A book is kept by no wider edition, in parts in a million.
 const WIDEST: u64 = 700;
 
+// Nor by one with a lower floor, in millionths.
 const LEAST_FLOOR: u64 = 10_000;
 
 fn usable<E: Edition>(edition: &E) -> Result<(), Unusable>

@@ -13,6 +13,7 @@ pub enum Unusable {
 }
 
 impl Unusable {
+    // Its number in the list of all refusals, which the ledger's go on with from 3.
     pub fn number(self) -> u8
         ensures { result ≡ (unusable_cause self).number }
     {
@@ -33,6 +34,7 @@ impl Unusable {
     }
 }
 
+// Not an Option of Unusable: None would not say that memory was wanting, and a `?` makes either of the two.
 #[derive(Clone, Copy, PartialEq, Eq, Debug)]
 pub enum Obstacle {
     Unusable(Unusable),

@@ -33,6 +33,7 @@ pub fn run<E: Edition>(heap: Global, edition: E, calls: &[Call]) -> Result<Run<E
     ensures { MatchResult result (λ x. Ran E.meaning edition calls.now x.answers.items x.book) (Closed E.meaning edition) }
 {
     let mut book = Book::new(heap, edition)?;
+    // Not by map_err: its closure would take the book, which the run hands out.
     let Ok(answers) = perform(heap, &mut book, calls) else {
         return Err(Unopened {
             edition: book.edition,

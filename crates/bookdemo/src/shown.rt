@@ -1,4 +1,4 @@
-// Calls and answers as text.
+// Calls and answers as text. Each is wrapped in a type of this crate, which alone can be printed here.
 use book::calls::{Answer, Call};
 use ledger::refusal::Refusal;
 use std::fmt;
