@@ -8,6 +8,8 @@ use records::limits::{BraceFigures, ChordFigures, Figure, Misfit, RatioFigures};
 use records::ratios::Ratios;
 use records::record::{BraceRecord, Chord};
 use std::fmt;
+use std::iter::Zip;
+use std::ops::RangeInclusive;
 use std::str::SplitWhitespace;
 
 #[derive(Drop)]
@@ -48,29 +50,36 @@ impl From<PileFault> for Fault {
     }
 }
 
-// The words of a line, taken one after another as whole numbers.
+// The words of a line, each with its field, taken one after another as whole numbers.
 #[derive(Drop)]
 struct Numbers<'a> {
-    words: SplitWhitespace<'a>,
-    taken: usize,
+    count: usize,
+    words: Zip<RangeInclusive<usize>, SplitWhitespace<'a>>,
 }
 
 impl<'a> Numbers<'a> {
+    // A line of too few or too many numbers is told by their count, whatever else is wrong with it.
+    fn of(text: &'a str) -> Result<Numbers<'a>, Fault> {
+        let count = text.split_whitespace().count();
+        if !(13..=15).contains(&count) {
+            return Err(Fault::Count(count));
+        }
+        let words = (1..=count).zip(text.split_whitespace());
+        Ok(Numbers { count, words })
+    }
+
     // The next number, or none where the line ends.
     fn number_if_any(&mut self) -> Result<Option<i64>, Fault> {
-        let Some(word) = self.words.next() else {
+        let Some((field, word)) = self.words.next() else {
             return Ok(None);
         };
-        self.taken = self.taken.saturating_add(1);
-        match word.parse::<i64>() {
-            Ok(number) => Ok(Some(number)),
-            Err(_) => Err(Fault::NotNumber(self.taken)),
-        }
+        let number = word.parse().map_err(|_| Fault::NotNumber(field))?;
+        Ok(Some(number))
     }
 
     // The next number of those that each line has.
     fn number(&mut self) -> Result<i64, Fault> {
-        self.number_if_any()?.ok_or(Fault::Count(self.taken))
+        self.number_if_any()?.ok_or(Fault::Count(self.count))
     }
 }
 
@@ -84,17 +93,10 @@ struct Figures {
     can: i64,
 }
 
-// A line of too few or too many numbers is told by their count, whatever else is wrong with it. Where it has no fourteenth there is
-// no divisor, and where it has no fifteenth no can. Strengths do not depend on the class shares: all is taken as X.
+// Where a line has no fourteenth number there is no divisor, and where it has no fifteenth no can. Strengths do not depend on the class
+// shares: all is taken as X.
 fn read_figures(text: &str) -> Result<Figures, Fault> {
-    let count = text.split_whitespace().count();
-    if !(13..=15).contains(&count) {
-        return Err(Fault::Count(count));
-    }
-    let mut numbers = Numbers {
-        words: text.split_whitespace(),
-        taken: 0,
-    };
+    let mut numbers = Numbers::of(text)?;
     let chord = ChordFigures {
         diameter: numbers.number()?,
         wall: numbers.number()?,
@@ -150,9 +152,7 @@ fn described(figures: Figures) -> Result<Joint, Fault>
 pub fn read_joint(bytes: &[u8]) -> Result<Joint, Fault>
     ensures { IfOk result Described }
 {
-    let Ok(text) = std::str::from_utf8(bytes) else {
-        return Err(Fault::NotText);
-    };
+    let text = std::str::from_utf8(bytes).map_err(|_| Fault::NotText)?;
     described(read_figures(text)?)
 }
 

@@ -44,14 +44,6 @@ mod tests {
         Ok(edition.tell(&brace, ratios, kind))
     }
 
-    fn is_spent<E: Edition>(edition: &E, joint: Joint, kind: Kind) -> bool {
-        matches!(told(edition, joint, kind), Ok(None))
-    }
-
-    fn is_unspent<E: Edition>(edition: &E, joint: Joint, kind: Kind) -> bool {
-        matches!(told(edition, joint, kind), Ok(Some(_)))
-    }
-
     // The told ends, where they enclose `value` millionths.
     fn enclosing<E: Edition>(
         edition: &E,
@@ -59,10 +51,8 @@ mod tests {
         kind: Kind,
         value: u64,
     ) -> Option<Strength> {
-        match told(edition, joint, kind) {
-            Ok(Some(strength)) if strength.low <= value && value <= strength.high => Some(strength),
-            _ => None,
-        }
+        let strength = told(edition, joint, kind).ok().flatten()?;
+        (strength.low <= value && value <= strength.high).then_some(strength)
     }
 
     fn apart(strength: Strength) -> u64 {
@@ -149,10 +139,10 @@ mod tests {
             p: -8897,
             ..unloaded(400, 80, 320)
         };
-        assert!(rt; is_unspent(&Api {}, unspent, Kind::YTension));
-        assert!(rt; is_spent(&Api {}, spent, Kind::YTension));
-        assert!(rt; is_unspent(&Api {}, unspent, Kind::YCompression));
-        assert!(rt; is_spent(&Api {}, spent, Kind::YCompression));
+        assert!(rt; matches!(told(&Api {}, unspent, Kind::YTension), Ok(Some(_))));
+        assert!(rt; matches!(told(&Api {}, spent, Kind::YTension), Ok(None)));
+        assert!(rt; matches!(told(&Api {}, unspent, Kind::YCompression), Ok(Some(_))));
+        assert!(rt; matches!(told(&Api {}, spent, Kind::YCompression), Ok(None)));
     }
 
     // Qf is exactly a tenth there.
@@ -164,8 +154,8 @@ mod tests {
             ..unloaded(400, 80, 320)
         };
         let less = Joint { mo: 7501, ..tenth };
-        assert!(rt; is_unspent(&Api {}, tenth, Kind::YTension));
-        assert!(rt; is_spent(&Api {}, less, Kind::YTension));
+        assert!(rt; matches!(told(&Api {}, tenth, Kind::YTension), Ok(Some(_))));
+        assert!(rt; matches!(told(&Api {}, less, Kind::YTension), Ok(None)));
     }
 
     // Qβ is 1 at β = 0.6 and 0.3 / (0.601 × (1 − 0.833 × 0.601)) just above it.
@@ -232,10 +222,8 @@ mod tests {
 
     // The width and the floor of the pile that the numbers name, or the number of the refusal and the field that it names.
     fn named(edition: i64, c: i64, can: i64) -> Result<(u64, u64), (u8, u8)> {
-        match Pile::of(edition, c, can) {
-            Ok(pile) => Ok((pile.width(), pile.floor())),
-            Err(fault) => Err((fault.number(), fault.field())),
-        }
+        let pile = Pile::of(edition, c, can).map_err(|fault| (fault.number(), fault.field()))?;
+        Ok((pile.width(), pile.floor()))
     }
 
     #[test]
