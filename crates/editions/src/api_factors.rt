@@ -48,7 +48,7 @@ fn between_value(r: &BraceRecord) -> Ends
     add(part, rest)
 }
 
-// Qg
+// Qg. Not one function with ISO's: each code has its own rows, formulas and bounds.
 fn gap_factor(r: &BraceRecord) -> Ends
     ensures { Near result (q_g (gap_row_by_api r.now) r.now) (milli 334) (milli 24500) 100000 }
 {

@@ -64,7 +64,7 @@ fn between_value(r: &BraceRecord) -> Ends
     add(part, rest)
 }
 
-// Qg
+// Qg. Not one function with API's: each code has its own rows, formulas and bounds.
 fn gap_factor(r: &BraceRecord) -> Ends
     ensures { Near result (q_g (gap_row_by_iso r.now) r.now) (milli 334) (milli 25000) 100000 }
 {

@@ -14,6 +14,7 @@ pub enum GapRow {
     Overlap,
 }
 
+// Two comparisons and not one by two const parameters: each reads best with its bound multiplied out.
 // Whether β is above 0.6.
 pub fn beta_above_six_tenths(r: &BraceRecord) -> bool
     ensures { result ≡ above_six_tenths r.now }
