@@ -4,7 +4,7 @@
 --     holding t                  what the tables t hold
 --     number_from z              z as a joint's or a brace's number, if it is from 1 to 999
 --     numbers_from j b           both, of a joint and of a brace, or the first that is none
---     find p xs                  the first of xs that passes p
+--     find p xs                  the first of xs that passes p, as the library has it
 --     amend p f xs               the first that passes is changed by f
 --     without p xs               the first that passes is taken out
 --     is_joint, is_brace         the joint with this number, the brace with this number at this joint
@@ -21,6 +21,7 @@
 -- Assumes nothing.
 use Rattle.std.specs.Prelude.{◌≡◌, ℕ, Bool, cond, not, ◌&&◌, List, [], ◌∷◌, ◌++◌, length, ℤ, pos, is_some, Some, None, Ok, Err, vec_items, count_by, filter, Option, Result, ◌==◌, int_le, nat_le, unsigned_abs}
 use Rattle.std.specs.Option.{ok_or}
+pub use Rattle.std.specs.List.{find}
 use Rattle.records.specs.Limits.{first_figure_outside, chord_limits, brace_fault, IsChord, IsBrace}
 use Rattle.records.specs.declared.limits.Figure.{Figure}
 use Rattle.records.specs.declared.limits.Misfit.{Misfit}
@@ -51,10 +52,6 @@ abbrev pub holding : Tables → Ledger
 holding t = record { joints = vec_items t.joints; braces = vec_items t.braces }
 
 -- ---- lists
-abbrev pub find : {X : Type 0} → (X → Bool) → List X → Option X
-find p [] = None
-find p (x ∷ xs) = cond (p x) (Some x) (find p xs)
-
 abbrev pub amend : {X : Type 0} → (X → Bool) → (X → X) → List X → List X
 amend p f [] = []
 amend p f (x ∷ xs) = cond (p x) (f x ∷ xs) (x ∷ amend p f xs)

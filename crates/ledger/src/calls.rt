@@ -1,7 +1,7 @@
 // The calls on the tables, each as the ledger has it.
 ghost use Rattle.std.specs.Prelude.{◌≡◌, is_some, is_ok, IfOk, count_by};
 ghost use Rattle.std.specs.Option.{ok_or};
-ghost use Rattle.ledger.specs.Ledger.{empty, holding, find, number_from, numbers_from, is_joint, is_brace, at_joint, Does, enter_cause, Entered, add_cause, Added, load_cause, Loaded, Told, note_cause, Noted, withdraw_cause, Withdrawn};
+ghost use Rattle.ledger.specs.Ledger.{empty, holding, find, number_from, numbers_from, is_joint, is_brace, at_joint, Enters, Adds, Loads, Told, Notes, Withdraws};
 ghost use Rattle.ledger.specs.declared.refusal.Refusal.TheVariants.{NumberOutside, Unknown};
 ghost use Rattle.ledger.specs.declared.refusal.Place.TheVariants.{Joint as PlaceOfJoint, Brace as PlaceOfBrace};
 ghost use Rattle.ledger.specs.Places.{Spotted, Stood};
@@ -98,7 +98,7 @@ impl Tables {
     }
 
     pub fn enter(&mut self, joint: i64, figures: ChordFigures) -> Result<(), Refusal>
-        ensures { Does (enter_cause joint figures (holding self.old)) (Entered joint figures (holding self.old) (holding self.new)) (holding self.old) (holding self.new) result }
+        ensures { Enters joint figures (holding self.old) (holding self.new) result }
     {
         let number = number_of(joint, Place::Joint)?;
         if self.joint_at(number).is_ok() {
@@ -123,7 +123,7 @@ impl Tables {
     }
 
     pub fn add(&mut self, joint: i64, brace: i64, figures: BraceFigures) -> Result<(), Refusal>
-        ensures { Does (add_cause joint brace figures (holding self.old)) (Added joint brace figures (holding self.old) (holding self.new)) (holding self.old) (holding self.new) result }
+        ensures { Adds joint brace figures (holding self.old) (holding self.new) result }
     {
         let (n, number) = numbers_of(joint, brace)?;
         if self.brace_at(n, number).is_ok() {
@@ -158,7 +158,7 @@ impl Tables {
     }
 
     pub fn load(&mut self, joint: i64, brace: i64, figures: ForceFigures) -> Result<(), Refusal>
-        ensures { Does (load_cause joint brace figures (holding self.old)) (Loaded joint brace figures (holding self.old) (holding self.new)) (holding self.old) (holding self.new) result }
+        ensures { Loads joint brace figures (holding self.old) (holding self.new) result }
     {
         let i = self.standing(joint, brace)?;
         let force = Force::new(figures)?;
@@ -179,7 +179,7 @@ impl Tables {
 
     // Writes down the answer of a check.
     pub fn note(&mut self, joint: i64, brace: i64, verdict: Verdict) -> Result<(), Refusal>
-        ensures { Does (note_cause joint brace (holding self.old)) (Noted joint brace verdict (holding self.old) (holding self.new)) (holding self.old) (holding self.new) result }
+        ensures { Notes joint brace verdict (holding self.old) (holding self.new) result }
     {
         let i = self.standing(joint, brace)?;
         let held = self.braces[i];
@@ -191,7 +191,7 @@ impl Tables {
     }
 
     pub fn withdraw(&mut self, joint: i64) -> Result<(), Refusal>
-        ensures { Does (withdraw_cause joint (holding self.old)) (Withdrawn joint (holding self.old) (holding self.new)) (holding self.old) (holding self.new) result }
+        ensures { Withdraws joint (holding self.old) (holding self.new) result }
     {
         let n = number_of(joint, Place::Joint)?;
         let i = self.joint_at(n)?;
@@ -200,7 +200,7 @@ impl Tables {
         Ok(())
     }
 
-    // In order of adding, keeping the first that reaches highest. An indexed `for` and no fold: this project's rule is that the walk over the braces shows its places.
+    // In order of adding, keeping the first that reaches highest. It is an indexed `for`, and no fold, by a rule of the project.
     pub fn worst(&self) -> Result<Worst, Refusal>
         ensures worst { WorstOf (holding self.now).braces result }
         ensures names { Names (holding self.now) result }

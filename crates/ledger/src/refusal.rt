@@ -102,15 +102,13 @@ impl Refusal {
         ensures { result ≡ (cause self).value }
     {
         match self {
-            Refusal::NumberOutside(place) => place.field(),
-            Refusal::NumberInUse(place) => place.field(),
-            Refusal::Unknown(place) => place.field(),
+            Refusal::NumberOutside(place) | Refusal::NumberInUse(place) | Refusal::Unknown(place) =>
+                place.field(),
             Refusal::Full(room) => room.limit(),
             Refusal::Outside(figure) => figure.field() as i64,
             Refusal::NoBrace(misfit) => misfit.value(),
-            Refusal::NotLoaded => 0,
             Refusal::Spent(spent) => spent.kind.number() as i64,
-            Refusal::Unchecked => 0,
+            Refusal::NotLoaded | Refusal::Unchecked => 0,
         }
     }
 }

@@ -1,4 +1,4 @@
-// Works out the verdict. The edition, the brace and its force are three parameters and not one struct: the clauses name each alone, and by `now.edition.now` they would say no more.
+// Works out the verdict. The edition, the brace and its force are three parameters and not one struct: a clause names each alone, where it would read `self.now.edition.now`.
 ghost use Rattle.std.specs.Prelude.{◌≡◌, ℕ, ◌+◌, ◌*◌, ◌/◌, ◌<◌, ◌≤◌, true, cond, MatchResult};
 ghost use Rattle.verdicts.specs.Reckoners.{tension};
 ghost use Rattle.verdicts.specs.Bindings.{FirstSpent};
@@ -18,7 +18,7 @@ const ONE: u64 = 1_000_000;
 
 const TEN: u64 = 10 * ONE;
 
-// The ends of a strength, if they are as close and as far from 0 as a usable edition's.
+// The ends of a strength, if they are as close, by 700 parts in a million, and as far from 0 as a usable edition's.
 fn trusted(told: Strength) -> Option<Known>
     ensures { Trusts told result }
 {
@@ -111,7 +111,7 @@ fn shared(shares: Shares, k: u64, y: u64, x: u64) -> u128
     shares.k as u128 * k as u128 + shares.y as u128 * y as u128 + shares.x as u128 * x as u128
 }
 
-// Both ends are written out: a function of one end would take the three strengths of that end, which `shared` does.
+// The two ends are two calls of `shared`: a function that picks an end of each strength would say no less.
 fn axial_resistance(brace: &BraceRecord, c: &Consulted) -> Resistance
     ensures low { result.low ≡ based brace.now (brace.now.shares.k * c.now.k.low + brace.now.shares.y * c.now.y.low + brace.now.shares.x * c.now.x.low) }
     ensures high { result.high ≡ based brace.now (brace.now.shares.k * c.now.k.high + brace.now.shares.y * c.now.y.high + brace.now.shares.x * c.now.x.high) }
@@ -136,7 +136,7 @@ fn moment_resistance(brace: &BraceRecord, strength: Known) -> Resistance
     }
 }
 
-// The ends of the ratio of a load to a resistance.
+// The ends of the ratio of a load to a resistance. 10 ^ 11 gathers the units of the resistance, the sine and the share.
 fn ratio(load: u64, brace: &BraceRecord, by: Resistance) -> Ratio
     requires { load ≤ 100000000 }
     ensures { Encloses load brace.now by result }

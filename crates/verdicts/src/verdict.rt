@@ -9,7 +9,7 @@ pub enum Part {
     OutOfPlaneMoment,
 }
 
-// A lower and an upper end, in millionths.
+// A lower and an upper end, in millionths: what is told, with no bounds of its own.
 #[derive(Clone, Copy, PartialEq, Eq, Debug)]
 pub struct Ends {
     pub low: u64,
