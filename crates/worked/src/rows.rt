@@ -7,6 +7,7 @@ use records::limits::Figure::{
 use records::limits::Misfit;
 use records::limits::Misfit::{Outside, SharesSum};
 
+// A static and not a const: a const's rows are written out anew where it is read, and the test would be too long to be checked.
 pub static LIMITS: [(Joint, Option<Misfit>); 79] = [
     (FITS, None),
     (
