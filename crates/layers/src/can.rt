@@ -42,7 +42,7 @@ fn factor(r: &BraceRecord) -> Portion
     ensures is { Is (can_factor r.now) result.quotient }
     ensures least { result.quotient.den ≤ 4 * result.quotient.num }
 {
-    let share = Portion::at_most_all(ratio(r)).quotient;
+    let share = Portion::at_most_one(ratio(r)).quotient;
     let thin = r.can.nominal * r.can.nominal;
     let thick = r.wall * r.wall;
     Portion {
@@ -59,7 +59,7 @@ fn multiplier(r: &BraceRecord, kind: Kind) -> Portion
 {
     match kind {
         Kind::YTension | Kind::YCompression | Kind::XTension | Kind::XCompression => factor(r),
-        Kind::KAxial | Kind::InPlane | Kind::OutOfPlane => Portion::all(),
+        Kind::KAxial | Kind::InPlane | Kind::OutOfPlane => Portion::ONE,
     }
 }
 

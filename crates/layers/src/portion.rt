@@ -1,5 +1,5 @@
 // A quotient that is at most 1, and what it makes of a told strength.
-ghost use Rattle.std.specs.Prelude.{◌≡◌, ◌+◌, ◌*◌, ◌<◌, ◌≤◌};
+ghost use Rattle.std.specs.Prelude.{◌+◌, ◌*◌, ◌<◌, ◌≤◌};
 ghost use Rattle.powers.specs.Fractions.{Fraction, number, ◌at_most◌};
 ghost use Rattle.powers.specs.Enclosures.{Is};
 ghost use Rattle.layers.specs.Layers.{Scaled};
@@ -14,22 +14,17 @@ pub struct Portion {
 }
 
 impl Portion {
-    // All of it.
-    pub fn all() -> Portion
-        ensures { (result.quotient.num ≡ 1) × (result.quotient.den ≡ 1) }
-    {
-        Portion {
-            quotient: Quotient { num: 1, den: 1 },
-        }
-    }
+    pub const ONE: Portion = Portion {
+        quotient: Quotient { num: 1, den: 1 },
+    };
 
     // A quotient, or 1 where it is above 1.
-    pub fn at_most_all(quotient: Quotient) -> Portion
+    pub fn at_most_one(quotient: Quotient) -> Portion
         ensures is { (f : Fraction) → Is f quotient → Is (f at_most number 1 1) result.quotient }
         ensures small { result.quotient.den ≤ quotient.den }
     {
         if quotient.num > quotient.den {
-            return Portion::all();
+            return Portion::ONE;
         }
         Portion { quotient }
     }
