@@ -70,10 +70,6 @@ neg_some bs zero z some e two t is =
 neg_some bs (suc n) z some e two t is =
     subst (λ (x : ℤ). IsText x bs) (sym is) (omega (arith, t.0), drop_more bs 0 0 some ∙ (λ i. e i ∷ (sym (take_rest bs 1) ∙ t.1) i))
 
-pub plain : (bs : List ℕ) → (get_or bs 0 0 ≡ 45 → ⊥) → ((n : ℕ) → IsPlain n bs → ⊥) → (z : ℤ) → IsText z bs → ⊥
-plain bs no_minus f (pos n) t = f n t
-plain bs no_minus f (negsuc n) t = no_minus (ap (λ (x : List ℕ). get_or x 0 0) t.1)
-
 -- ---- one number to a text
 small_mag : (z : ℤ) → Short z → mag z < 9223372036854775808
 small_mag (pos n) h = omega arith

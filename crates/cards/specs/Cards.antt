@@ -1,6 +1,9 @@
 -- The cards.
 --
 --     numbers_in k ts       the numbers of the fields ts, of which the first is field k; else the first field that is no number
+--     Numbers k ts r us     r is the number of the first of the fields ts, which is field k, and us are those behind it; with no field left
+--                           there is no number
+--     by_numbers w r        the card of the word w with the numbers r; else their fault
 --     card_of_word w zs     the card of the word w with the numbers zs
 --     card_of ready line    the card of a line, where the book is open or not; else its first fault in this order: more than 120 bytes; no
 --                           word, or one out of place; another count of fields than the word's; a field that is no number
@@ -31,7 +34,6 @@ abbrev pub numbers_in : ℕ → List (List ℕ) → Result (List ℤ) NumberFaul
 numbers_in k [] = Ok []
 numbers_in k (t ∷ ts) = then (number_in t) k (numbers_in (k + 1) ts)
 
--- r is the number of the first of the fields ts, which is field k, and us are those behind it
 abbrev pub Numbers : ℕ → List (List ℕ) → Result ℤ NumberFault → List (List ℕ) → Type 0
 Numbers k [] r us = r ≡ Err (record { field = k })
 Numbers k (t ∷ ts) (Ok z) us = (number_in t ≡ Some z) × (us ≡ ts)

@@ -1,5 +1,6 @@
 -- What a session makes of a card.
 --
+--     desk_with o           the desk of the book o, or the closed one
 --     desk_of s             the desk of the session s
 --     is_desk_open d        the desk is open
 --     Opening n r           a book by the pile that the numbers n name: refused by the first that names nothing, or empty

@@ -1,8 +1,6 @@
-use Rattle.std.proofs.Common.{◌≡◌, ◌-◌, get_or, take, ap, ◌∙◌, subst, arith}
-use Rattle.std.specs.Str.Parse.{digits_value, AllDigits}
+use Rattle.std.proofs.Common.{◌≡◌, ◌-◌, get_or, arith}
 use Rattle.std.specs.Char.{digit_value as digitValue}
 use Rattle.std.proofs.lemmas.Int.Digits.{digits_value_more, digits_more}
-use Rattle.std.proofs.lemmas.List.{take_all}
 use Rattle.cards.proofs.Signs.{front_small, digit_value, no_digit}
 use Rattle.cards.proofs.numbers.digits.Goals as goal
 
@@ -24,9 +22,3 @@ loop-b-preserved c =
     let i = c.loop-b.b-index in
     let dv : digitValue (get_or bs i 0) ≡ get_or bs i 0 - 48 = digit_value (get_or bs i 0) (omega arith) (omega arith) in
     (omega (arith, digits_value_more 10 bs i c.loop-b-test.true), digits_more 10 bs i c.loop-b-test.true c.loop-b.invariant.1 (omega arith))
-
-pub returns : goal.returns
-returns c =
-    let bs = c.args.field.now in
-    let e : take c.loop-b.b-index bs ≡ bs = take_all c.loop-b.b-index bs c.loop-b-test.false in
-    (c.if-field-gt-MOST_DIGITS.false, subst (AllDigits 10) e c.loop-b.invariant.1, c.loop-b.invariant.0 ∙ ap (digits_value 10) e)
