@@ -2,7 +2,7 @@
 -- Here and not in proofs/, since an impl's law has to cite them; a reader of the promises needs none of it. Assumes nothing.
 use Rattle.std.specs.Prelude.{◌≡◌, ℕ, ◌+◌, ◌-◌, ◌*◌, ◌/◌, ◌<◌, ◌≤◌, min, refl, Some}
 use Rattle.std.proofs.Common.{ap, mul-le-mul_right, mul-le-mul_left, mul-pos, le_of_mul-le-mul_right, lt_of_mul-lt-mul_right, div-mul-le_self, arith}
-use Rattle.std.proofs.lemmas.Bool.{cond_both, leb-true}
+use Rattle.std.proofs.lemmas.Bool.{cond_both, leb-true, leb-false}
 use Rattle.powers.specs.declared.quotient.Quotient.{Quotient}
 use Rattle.powers.specs.Fractions.{Fraction, Positive, den_positive, num_positive, number, positive_of, ◌≤ᶠ◌, ◌÷⁺◌, ◌at_most◌}
 use Rattle.powers.specs.Enclosures.{Is}
@@ -101,7 +101,12 @@ module _ (s : BraceRecord → Kind → Positive) (n : ℕ) (m : Meaning) (law : 
             (e.close (record { narrow = omega arith; firm = f })));
       }
 
--- a fraction beyond 1
+-- a fraction at most 1, and one beyond it
+pub within_one : (f : Fraction) (z : Quotient) → Is f z → z.num ≤ z.den → Is (f at_most number 1 1) z
+within_one f z is h =
+    cond_both _ f (number 1 1) (λ g. Is g z) (λ _. is)
+    (λ t. absurd (let i : f.num ≤ f.den = le_of_mul-le-mul_right {k = z.den} (omega (arith, mul-le-mul_right f.den h)) z.whole in omega (arith, leb-false _ _ t)))
+
 pub beyond_one : (f : Fraction) (n d : ℕ) → f.num * d ≡ n * f.den → 0 < d → d < n → (f at_most number 1 1).num * 1 ≡ 1 * (f at_most number 1 1).den
 beyond_one f n d is p h =
     cond_both _ f (number 1 1) (λ g. g.num * 1 ≡ 1 * g.den)
