@@ -1,5 +1,5 @@
 -- Small laws of what the tables of formulas are made of.
-use Rattle.std.proofs.Common.{◌≡◌, ℕ, ◌+◌, ◌*◌, ◌^◌, ◌<◌, ◌≤◌, T, leb, ap, mul-le-mul_right, mul-le-mul, mul-pos, arith, leb→le}
+use Rattle.std.proofs.Common.{◌≡◌, ℕ, ◌+◌, ◌*◌, ◌^◌, ◌≤◌, T, leb, ap, mul-le-mul_right, mul-le-mul, arith, leb→le}
 use Rattle.powers.specs.Fractions.{◌≤ᶠ◌}
 use Rattle.powers.specs.Enclosures.{units}
 
@@ -17,11 +17,8 @@ q_beta_is D d x y e = rw e (omega arith)
 
 -- 1 + 0.2 (x / 10 D)³
 module _ (D x : ℕ) where
-  pub cubes_is : (s W R : ℕ) → s ≡ x → W ≡ (10 * D) * (10 * D) * (10 * D) → R ≡ s * s * s → 10 * W + 2 * R ≡ 1 * (10 * ((1 * (10 * D)) * (1 * (10 * D)) * (1 * (10 * D)))) + (2 * (x * x * x)) * 1
-  cubes_is s W R e f g = rw (g, f, e) (omega arith)
-
-  pub cube_is : (W : ℕ) → W ≡ (10 * D) * (10 * D) * (10 * D) → 10 * W ≡ 1 * (10 * ((1 * (10 * D)) * (1 * (10 * D)) * (1 * (10 * D))))
-  cube_is W f = rw f (omega arith)
+  pub cubes_is : (s : ℕ) → s ≡ x → (1 * (10 * ((1 * (10 * D)) * (1 * (10 * D)) * (1 * (10 * D)))) + (2 * (x * x * x)) * 1) * (10 * (10 * D * (10 * D) * (10 * D))) ≡ (10 * (10 * D * (10 * D) * (10 * D)) + 2 * (s * s * s)) * (1 * (10 * ((1 * (10 * D)) * (1 * (10 * D)) * (1 * (10 * D)))))
+  cubes_is s e = rw e (omega arith)
 
   pub cubes_least : 1099511627776 * (1 * (10 * ((1 * (10 * D)) * (1 * (10 * D)) * (1 * (10 * D))))) ≤ (1 * (10 * ((1 * (10 * D)) * (1 * (10 * D)) * (1 * (10 * D)))) + (2 * (x * x * x)) * 1) * 2 ^ 40
   cubes_least = omega arith

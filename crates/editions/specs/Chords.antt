@@ -3,6 +3,7 @@
 --     ChordFactor                a quotient num / den whose numerator has a sign
 --     spent f                    f < 1/10
 --     as_fraction f              f without its sign, for a chord that is not spent
+--     ChordCoefficients          API's coefficients as they are written, and `written c` the code's c so
 --     api_q_f c q                Qf = 1 + C1 P − C2 I − C3 (P² + I² + O²), with P, I and O the ratios over 10,000
 --     tenths c1 c2 c3            coefficients in tenths
 --     coefficients_by_api r k    C1, C2, C3 for the kind k
@@ -12,10 +13,11 @@
 --     iso_chord_factor r q k     Qf by ISO
 --     Left f z                   the chord is not spent, and z is its Qf
 --     ChordTold f a              the answer a is Qf, or none where the chord is spent
---     Moderate, Split            what the steps of the computation promise one another
+--     axial_square s, bending_square s    P² and I² + O², times 10^8, from the parts of the ratios
+--     Split                      what the steps of the computation promise one another
 --
 -- Qf is not cut at 1. Assumes nothing.
-use Rattle.std.specs.Prelude.{◌≡◌, ℕ, ◌-◌, ◌*◌, ◌≤◌, Bool, true, false, cond, ℤ, pos, ◌+ℤ◌, ◌-ℤ◌, ◌*ℤ◌, Some, None, Option, int_lt}
+use Rattle.std.specs.Prelude.{◌≡◌, ℕ, ◌+◌, ◌-◌, ◌*◌, ◌≤◌, Bool, true, false, cond, ℤ, pos, ◌+ℤ◌, ◌-ℤ◌, ◌*ℤ◌, Some, None, Option, int_lt}
 use borrow.Author.Differences.{up, down}
 use Rattle.powers.specs.declared.quotient.Quotient.{Quotient}
 use Rattle.powers.specs.Fractions.{Fraction, number}
@@ -40,8 +42,20 @@ spent f = int_lt (pos 10 *ℤ f.num) (pos f.den)
 abbrev pub as_fraction : ChordFactor → Fraction
 as_fraction f = number (up f.num) f.den
 
+-- coefficients, the first of them as a rise less a fall
+pub record ChordCoefficients : Type 0 where
+  pub over : ℕ
+  pub rise : ℕ
+  pub fall : ℕ
+  pub close : ℕ
+  pub square : ℕ
+
+-- as the code has them
+abbrev pub written : Coefficients → ChordCoefficients
+written c = record { over = c.over; rise = c.rise; fall = c.fall; close = c.close; square = c.square }
+
 -- C1 is (rise − fall) / (10 over), C2 is close / (10 over), C3 is square / (10 over). All is brought to the denominator 10^9 over.
-abbrev pub api_q_f : Coefficients → Ratios → ChordFactor
+abbrev pub api_q_f : ChordCoefficients → Ratios → ChordFactor
 api_q_f c q =
     let c1 = pos c.rise -ℤ pos c.fall in
     record {
@@ -50,11 +64,11 @@ api_q_f c q =
       den = 1000000000 * c.over;
     }
 
-abbrev pub tenths : (c1 c2 c3 : ℕ) → Coefficients
+abbrev pub tenths : (c1 c2 c3 : ℕ) → ChordCoefficients
 tenths c1 c2 c3 = record { over = 1; rise = c1; fall = 0; close = c2; square = c3 }
 
 -- 0.2, 0, 0.5 for β ≤ 0.9; then C1 = 0.2 − 4 (β − 0.9) and C3 = 0.5 − 3 (β − 0.9), which are −0.2 and 0.2 at β = 1
-abbrev pub coefficients_of_x : BraceRecord → Coefficients
+abbrev pub coefficients_of_x : BraceRecord → ChordCoefficients
 coefficients_of_x r =
     cond (above_nine_tenths r)
     (record {
@@ -66,7 +80,7 @@ coefficients_of_x r =
     })
     (tenths 2 0 5)
 
-abbrev pub coefficients_by_api : BraceRecord → Kind → Coefficients
+abbrev pub coefficients_by_api : BraceRecord → Kind → ChordCoefficients
 coefficients_by_api r KAxial = tenths 2 2 3
 coefficients_by_api r YTension = tenths 3 0 8
 coefficients_by_api r YCompression = tenths 3 0 8
@@ -110,21 +124,12 @@ abbrev pub ChordTold : ChordFactor → Option Quotient → Type 0
 ChordTold f None = spent f ≡ true
 ChordTold f (Some z) = Left f z
 
--- coefficients for which nothing overflows
-pub record Moderate (c : Coefficients) : Type 0 where
-  pub some : 1 ≤ c.over
-  pub few : c.over ≤ 4000
-  pub rise : c.rise ≤ 3 * c.over
-  pub fall : c.fall ≤ 2 * c.over
-  pub close : c.close ≤ 2 * c.over
-  pub square : c.square ≤ 8 * c.over
+-- P², and I² + O², each times 10^8
+abbrev pub axial_square : Signs → ℕ
+axial_square s = (s.tension + s.compression) * (s.tension + s.compression)
 
-pub record ModerateWeights (c : Weights) : Type 0 where
-  pub w : c.w ≤ 45
-  pub axial : c.axial ≤ 25
-  pub bending : c.bending ≤ 43
-  pub axially : c.w * c.axial ≤ 2000
-  pub bendingly : c.w * c.bending ≤ 2000
+abbrev pub bending_square : Signs → ℕ
+bending_square s = (s.closing + s.opening) * (s.closing + s.opening) + s.side * s.side
 
 pub record Split (q : Ratios) (s : Signs) : Type 0 where
   pub tension : s.tension ≡ up q.p

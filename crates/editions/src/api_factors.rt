@@ -7,7 +7,7 @@ ghost use Rattle.editions.specs.Rows.{gap_row_by_api, ApiBetween};
 ghost use Rattle.editions.specs.Api.{factor_by_api, gapped, between, q_g};
 
 use crate::factors::{overlap_value, x_compression_factor, x_tension_factor, y_tension_factor};
-use crate::figures::{beta, gap, overlap, times};
+use crate::figures::beta;
 use crate::rows::{GapRow, api_gap_row};
 use powers::ends::Ends;
 use powers::ops::{add, exact, mul};
@@ -15,24 +15,17 @@ use powers::quotient::Quotient;
 use powers::roots::{eight_fifths, six_fifths, thirteen_fifths};
 use records::kind::Kind;
 use records::record::BraceRecord;
-
-fn cube(x: u64) -> u64
-    requires { x ≤ 40000 }
-    ensures is { result ≡ x * x * x }
-    ensures small { result ≤ 64000000000000 }
-{
-    times(times(x, x), x)
-}
+use records::signs::{above, below};
 
 fn gap_value(r: &BraceRecord) -> Ends
     ensures { Near result (constant (gapped r.now)) (milli 999) (milli 1201) 3 }
 {
-    let g = gap(r);
-    let whole = cube(10 * r.diameter);
-    let rest = cube((10 * r.diameter).saturating_sub(28 * g));
+    let whole = 10 * r.diameter;
+    let rest = whole.saturating_sub(28 * above(r.gap));
+    let cube = 10 * (whole * whole * whole);
     exact(Quotient {
-        num: 10 * whole + 2 * rest,
-        den: 10 * whole,
+        num: cube + 2 * (rest * rest * rest),
+        den: cube,
     })
 }
 
@@ -40,8 +33,8 @@ fn between_value(r: &BraceRecord) -> Ends
     requires { ApiBetween r.now }
     ensures { Near result (between r.now) (milli 334) (milli 24500) 100000 }
 {
-    let g = gap(r);
-    let o = overlap(r);
+    let g = above(r.gap);
+    let o = below(r.gap);
     let share = exact(Quotient {
         num: r.diameter + 20 * o - 20 * g,
         den: 2 * r.diameter,
@@ -55,7 +48,7 @@ fn between_value(r: &BraceRecord) -> Ends
     add(part, rest)
 }
 
-// Qg
+// Qg. Not one function with ISO's: each code has its own rows, formulas and bounds.
 fn gap_factor(r: &BraceRecord) -> Ends
     ensures { Near result (q_g (gap_row_by_api r.now) r.now) (milli 334) (milli 24500) 100000 }
 {

@@ -1,7 +1,6 @@
 // The figures of a record as quotients.
-ghost use Rattle.std.specs.Prelude.{◌≡◌, ◌*◌, ◌≤◌};
+ghost use Rattle.std.specs.Prelude.{◌*◌, ◌≤◌};
 ghost use Rattle.powers.specs.Enclosures.{Is, UpToOne};
-ghost use Rattle.records.specs.Signs.{apart, lap};
 ghost use Rattle.editions.specs.Figures.{beta as of_beta, gamma as of_gamma};
 
 use powers::quotient::Quotient;
@@ -28,25 +27,4 @@ pub fn gamma(r: &BraceRecord) -> Quotient
         num: 5 * r.diameter,
         den: r.wall,
     }
-}
-
-pub fn times(a: u64, b: u64) -> u64
-    requires { (a ≤ 4000000000) × (b ≤ 4000000000) }
-    ensures { result ≡ a * b }
-{
-    a * b
-}
-
-// How far apart the braces are, or 0.
-pub fn gap(r: &BraceRecord) -> u64
-    ensures { result ≡ apart r.now.gap }
-{
-    r.gap.max(0) as u64
-}
-
-// How far they overlap, or 0.
-pub fn overlap(r: &BraceRecord) -> u64
-    ensures { result ≡ lap r.now.gap }
-{
-    (-r.gap).max(0) as u64
 }

@@ -9,7 +9,7 @@ use crate::factors::{
     beta_factor, gamma_root, overlap_value, x_compression_factor, x_tension_factor,
     y_tension_factor,
 };
-use crate::figures::{gamma, gap, overlap, times};
+use crate::figures::gamma;
 use crate::rows::{GapRow, iso_gap_row};
 use powers::ends::Ends;
 use powers::ops::{add, exact, greater_of, mul, sub};
@@ -18,12 +18,13 @@ use powers::raise::power_below;
 use powers::roots::square_root;
 use records::kind::Kind;
 use records::record::BraceRecord;
+use records::signs::{above, below};
 
 fn gap_value(r: &BraceRecord) -> Ends
     requires { IsoGap r.now }
     ensures { Near result (gapped r.now) (milli 999) (milli 1800) 20 }
 {
-    let g = gap(r);
+    let g = above(r.gap);
     let one = exact(Quotient { num: 1, den: 1 });
     if 81 * r.diameter < 100 * g {
         return one;
@@ -41,8 +42,8 @@ fn between_value(r: &BraceRecord) -> Ends
     requires { IsoBetween r.now }
     ensures { Near result (between r.now) (milli 334) (milli 25000) 100000 }
 {
-    let g = gap(r);
-    let o = overlap(r);
+    let g = above(r.gap);
+    let o = below(r.gap);
     let share = exact(Quotient {
         num: r.wall + 5 * o - 5 * g,
         den: 2 * r.wall,
@@ -63,7 +64,7 @@ fn between_value(r: &BraceRecord) -> Ends
     add(part, rest)
 }
 
-// Qg
+// Qg. Not one function with API's: each code has its own rows, formulas and bounds.
 fn gap_factor(r: &BraceRecord) -> Ends
     ensures { Near result (q_g (gap_row_by_iso r.now) r.now) (milli 334) (milli 25000) 100000 }
 {
@@ -109,8 +110,8 @@ fn out_of_plane(r: &BraceRecord) -> Ends
 {
     let start = exact(Quotient { num: 32, den: 10 });
     let exponent = Quotient {
-        num: times(r.brace, r.brace),
-        den: 2 * times(r.diameter, r.diameter),
+        num: r.brace * r.brace,
+        den: 2 * (r.diameter * r.diameter),
     };
     let power = power_below(gamma(r), exponent);
     mul(start, power)

@@ -1,10 +1,10 @@
 // Which row of the rules applies to a brace.
-ghost use Rattle.std.specs.Prelude.{◌≡◌};
+ghost use Rattle.std.specs.Prelude.{◌≡◌, ◌≤◌};
 ghost use Rattle.editions.specs.declared.rows.GapRow.TheVariants.{Gap, Between};
-ghost use Rattle.editions.specs.Rows.{above_six_tenths, above_nine_tenths, gap_row_by_api, gap_row_by_iso, ApiBetween, IsoGap, IsoBetween};
+ghost use Rattle.editions.specs.Rows.{above_six_tenths, above_nine_tenths, row_of_gap, gap_row_by_api, gap_row_by_iso, ApiBetween, IsoGap, IsoBetween};
 
-use crate::figures::{gap, overlap};
 use records::record::BraceRecord;
+use records::signs::{above, below};
 
 // The rows of a gap factor: a gap, an overlap, or too little of either.
 #[derive(Clone, Copy)]
@@ -14,6 +14,7 @@ pub enum GapRow {
     Overlap,
 }
 
+// Two comparisons and not one by two const parameters: each reads best with its bound multiplied out.
 // Whether β is above 0.6.
 pub fn beta_above_six_tenths(r: &BraceRecord) -> bool
     ensures { result ≡ above_six_tenths r.now }
@@ -28,18 +29,26 @@ pub fn beta_above_nine_tenths(r: &BraceRecord) -> bool
     9 * r.diameter < 10 * r.brace
 }
 
+// The row of a gap factor: a gap of one of these parts of the span or more, an overlap of as much, or too little of either.
+fn gap_row(r: &BraceRecord, span: u64, parts: u64) -> GapRow
+    requires { parts ≤ 20 }
+    ensures { result ≡ row_of_gap span parts r.now }
+{
+    if span <= parts * above(r.gap) {
+        return GapRow::Gap;
+    }
+    if span <= parts * below(r.gap) {
+        return GapRow::Overlap;
+    }
+    GapRow::Between
+}
+
 // The row of API's gap factor.
 pub fn api_gap_row(r: &BraceRecord) -> GapRow
     ensures is { result ≡ gap_row_by_api r.now }
     ensures between { result ≡ Between → ApiBetween r.now }
 {
-    if r.diameter <= 20 * gap(r) {
-        return GapRow::Gap;
-    }
-    if r.diameter <= 20 * overlap(r) {
-        return GapRow::Overlap;
-    }
-    GapRow::Between
+    gap_row(r, r.diameter, 20)
 }
 
 // The row of ISO's gap factor.
@@ -48,11 +57,5 @@ pub fn iso_gap_row(r: &BraceRecord) -> GapRow
     ensures gap { result ≡ Gap → IsoGap r.now }
     ensures between { result ≡ Between → IsoBetween r.now }
 {
-    if r.wall <= 5 * gap(r) {
-        return GapRow::Gap;
-    }
-    if r.wall <= 5 * overlap(r) {
-        return GapRow::Overlap;
-    }
-    GapRow::Between
+    gap_row(r, r.wall, 5)
 }

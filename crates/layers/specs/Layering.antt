@@ -2,7 +2,7 @@
 -- Here and not in proofs/, since an impl's law has to cite them; a reader of the promises needs none of it. Assumes nothing.
 use Rattle.std.specs.Prelude.{◌≡◌, ℕ, ◌+◌, ◌-◌, ◌*◌, ◌/◌, ◌<◌, ◌≤◌, min, refl, Some}
 use Rattle.std.proofs.Common.{ap, mul-le-mul_right, mul-le-mul_left, mul-pos, le_of_mul-le-mul_right, lt_of_mul-lt-mul_right, div-mul-le_self, arith}
-use Rattle.std.proofs.lemmas.Bool.{cond_both, leb-true, leb-false}
+use Rattle.std.proofs.lemmas.Bool.{cond_both, leb-true}
 use Rattle.powers.specs.declared.quotient.Quotient.{Quotient}
 use Rattle.powers.specs.Fractions.{Fraction, Positive, den_positive, num_positive, number, positive_of, ◌≤ᶠ◌, ◌÷⁺◌, ◌at_most◌}
 use Rattle.powers.specs.Enclosures.{Is}
@@ -101,12 +101,7 @@ module _ (s : BraceRecord → Kind → Positive) (n : ℕ) (m : Meaning) (law : 
             (e.close (record { narrow = omega arith; firm = f })));
       }
 
--- a fraction at most 1, and one beyond it
-pub within_one : (f : Fraction) (z : Quotient) → Is f z → z.num ≤ z.den → Is (f at_most number 1 1) z
-within_one f z is h =
-    cond_both _ f (number 1 1) (λ g. Is g z) (λ _. is)
-    (λ t. absurd (let i : f.num ≤ f.den = le_of_mul-le-mul_right {k = z.den} (omega (arith, mul-le-mul_right f.den h)) z.whole in omega (arith, leb-false _ _ t)))
-
+-- a fraction beyond 1
 pub beyond_one : (f : Fraction) (n d : ℕ) → f.num * d ≡ n * f.den → 0 < d → d < n → (f at_most number 1 1).num * 1 ≡ 1 * (f at_most number 1 1).den
 beyond_one f n d is p h =
     cond_both _ f (number 1 1) (λ g. g.num * 1 ≡ 1 * g.den)
@@ -119,15 +114,15 @@ blended a x c y u v k =
     omega (arith, ap (λ (t : ℕ). ((c + y) * v) * t) p)
 
 -- a share of 1 and the rest of u / v: the share is a / b, or c / d as a fraction
-module _ (a b c d u v : ℕ) (is : c * b ≡ a * d) (ab : a ≤ b) (cd : c ≤ d) where
-  pub blend_is : (c * ((1 * d) * v) + ((1 * d - c * 1) * u) * d) * (b * v) ≡ (a * v + (b - a) * u) * (d * ((1 * d) * v))
-  blend_is = core (b - a) (1 * d - c * 1) (omega arith) (omega arith)
-    where
-      core : (x y : ℕ) → a + x ≡ b → c + y ≡ d → (c * ((1 * d) * v) + (y * u) * d) * (b * v) ≡ (a * v + x * u) * (d * ((1 * d) * v))
-      core x y e f =
-          let k : c * x ≡ a * y = omega (arith, ap (λ (t : ℕ). c * t) e, ap (λ (t : ℕ). a * t) f) in
-          rw (← e, ← f) (blended a x c y u v k)
+pub blend_is : (a b c d u v : ℕ) → c * b ≡ a * d → a ≤ b → c ≤ d → (c * ((1 * d) * v) + ((1 * d - c * 1) * u) * d) * (b * v) ≡ (a * v + (b - a) * u) * (d * ((1 * d) * v))
+blend_is a b c d u v is ab cd = core (b - a) (1 * d - c * 1) (omega arith) (omega arith)
+  where
+    core : (x y : ℕ) → a + x ≡ b → c + y ≡ d → (c * ((1 * d) * v) + (y * u) * d) * (b * v) ≡ (a * v + x * u) * (d * ((1 * d) * v))
+    core x y e f =
+        let k : c * x ≡ a * y = omega (arith, ap (λ (t : ℕ). c * t) e, ap (λ (t : ℕ). a * t) f) in
+        rw (← e, ← f) (blended a x c y u v k)
 
+module _ (a b u v : ℕ) (ab : a ≤ b) where
   pub blend_least : v ≤ 4 * u → b * v ≤ 4 * (a * v + (b - a) * u)
   blend_least h =
       let e : a + (b - a) ≡ b = omega arith in

@@ -10,6 +10,7 @@ use records::kind::Kind;
 use records::ratios::Ratios;
 use records::record::BraceRecord;
 
+// An enum and not a boxed edition: a number on a card picks one of just these, and a boxed edition can't be handed out.
 #[derive(Clone, Copy)]
 pub enum Bare {
     Iso(Iso2007),

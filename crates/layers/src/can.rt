@@ -1,11 +1,11 @@
 // Short cans: a layer over any edition.
 ghost use Rattle.std.specs.Prelude.{◌≡◌, ◌*◌, ◌≤◌, min};
-ghost use Rattle.powers.specs.Fractions.{Fraction, number, ◌at_most◌};
 ghost use Rattle.powers.specs.Enclosures.{Is};
 ghost use Rattle.layers.specs.Layers.{can_ratio, can_factor, can_multiplier, canned};
 ghost use Rattle.layers.specs.Layering.{scaled_lawful};
 
-use crate::scale::scale;
+use crate::portion::Portion;
+use crate::width::widened;
 use editions::edition::Edition;
 use editions::rows::beta_above_nine_tenths;
 use editions::strength::Strength;
@@ -20,13 +20,6 @@ pub struct Can<E> {
     pub below: E,
 }
 
-fn times(a: u64, b: u64) -> u64
-    requires { (a ≤ 4000000000) × (b ≤ 4000000000) }
-    ensures { result ≡ a * b }
-{
-    a * b
-}
-
 // r, where it is not above 1
 fn ratio(r: &BraceRecord) -> Quotient
     ensures is { Is (can_ratio r.now) result }
@@ -34,8 +27,8 @@ fn ratio(r: &BraceRecord) -> Quotient
 {
     if beta_above_nine_tenths(r) {
         return Quotient {
-            num: times(2 * r.can.length, 4 * r.brace - 3 * r.diameter),
-            den: 3 * times(r.diameter, r.diameter),
+            num: 2 * r.can.length * (4 * r.brace - 3 * r.diameter),
+            den: 3 * (r.diameter * r.diameter),
         };
     }
     Quotient {
@@ -44,48 +37,29 @@ fn ratio(r: &BraceRecord) -> Quotient
     }
 }
 
-fn at_most_one(z: Quotient) -> Quotient
-    ensures is { (f : Fraction) → Is f z → Is (f at_most number 1 1) result }
-    ensures most { result.num ≤ result.den }
-    ensures small { result.den ≤ z.den }
-{
-    if z.num > z.den {
-        return Quotient { num: 1, den: 1 };
-    }
-    z
-}
-
-fn squared(wall: u64) -> u64
-    requires { wall ≤ 2000 }
-    ensures is { result ≡ wall * wall }
-    ensures small { result ≤ 4000000 }
-{
-    times(wall, wall)
-}
-
 // k
-fn factor(r: &BraceRecord) -> Quotient
-    ensures is { Is (can_factor r.now) result }
-    ensures least { result.den ≤ 4 * result.num }
-    ensures most { result.num ≤ result.den }
+fn factor(r: &BraceRecord) -> Portion
+    ensures is { Is (can_factor r.now) result.quotient }
+    ensures least { result.quotient.den ≤ 4 * result.quotient.num }
 {
-    let s = at_most_one(ratio(r));
-    let thin = squared(r.can.nominal);
-    let thick = squared(r.wall);
-    Quotient {
-        num: times(s.num, thick) + times(s.den - s.num, thin),
-        den: times(s.den, thick),
+    let share = Portion::at_most_one(ratio(r)).quotient;
+    let thin = r.can.nominal * r.can.nominal;
+    let thick = r.wall * r.wall;
+    Portion {
+        quotient: Quotient {
+            num: share.num * thick + (share.den - share.num) * thin,
+            den: share.den * thick,
+        },
     }
 }
 
-fn multiplier(r: &BraceRecord, kind: Kind) -> Quotient
-    ensures is { Is (can_multiplier r.now kind).value result }
-    ensures least { result.den ≤ 4 * result.num }
-    ensures most { result.num ≤ result.den }
+fn multiplier(r: &BraceRecord, kind: Kind) -> Portion
+    ensures is { Is (can_multiplier r.now kind).value result.quotient }
+    ensures least { result.quotient.den ≤ 4 * result.quotient.num }
 {
     match kind {
         Kind::YTension | Kind::YCompression | Kind::XTension | Kind::XCompression => factor(r),
-        Kind::KAxial | Kind::InPlane | Kind::OutOfPlane => Quotient { num: 1, den: 1 },
+        Kind::KAxial | Kind::InPlane | Kind::OutOfPlane => Portion::ONE,
     }
 }
 
@@ -95,8 +69,7 @@ impl<E: Edition> Edition for Can<E> {
     ghost lawful = { λ e. scaled_lawful can_multiplier 4 (E.Edition.meaning e.below) (E.Edition.lawful e.below) };
 
     fn width(&self) -> u64 {
-        let w = self.below.width();
-        w.min(999700) + 300
+        widened(self.below.width())
     }
 
     fn floor(&self) -> u64 {
@@ -105,7 +78,6 @@ impl<E: Edition> Edition for Can<E> {
 
     fn tell(&self, brace: &BraceRecord, ratios: Ratios, kind: Kind) -> Option<Strength> {
         let told = self.below.tell(brace, ratios, kind)?;
-        let z = multiplier(brace, kind);
-        Some(scale(told, z))
+        Some(multiplier(brace, kind).of(told))
     }
 }

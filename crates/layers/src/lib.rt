@@ -8,4 +8,5 @@ pub mod divisor;
 pub mod naming;
 pub mod pile;
 pub mod pile_fault;
-mod scale;
+mod portion;
+mod width;

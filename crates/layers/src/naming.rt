@@ -1,22 +1,24 @@
 // A pile from the three numbers of a card.
-ghost use Rattle.std.specs.Prelude.{◌≡◌, true, pos, IfOk, Some, None, MatchOption, MatchResult};
+ghost use Rattle.std.specs.Prelude.{◌≡◌, true, pos, IfOk, Some, None, MatchResult};
+ghost use Rattle.layers.specs.declared.pile_fault.PileFault.TheVariants.{Edition};
 ghost use Rattle.layers.specs.Piles.{BareNamed, PileNamed, fault_of_pile, outside};
 
 use crate::bare::Bare;
 use crate::can::Can;
+use crate::dividing::fair_divisor;
 use crate::divisor::Divisor;
 use crate::pile::Pile;
 use crate::pile_fault::PileFault;
 use editions::api::Api;
 use editions::iso::Iso2007;
 
-fn bare(edition: i64) -> Option<Bare>
-    ensures { MatchOption result (outside (pos 1) edition (pos 2) ≡ true) (λ b. BareNamed b edition) }
+fn bare(edition: i64) -> Result<Bare, PileFault>
+    ensures { MatchResult result (λ b. BareNamed b edition) (λ e. (e ≡ Edition) × (outside (pos 1) edition (pos 2) ≡ true)) }
 {
     match edition {
-        1 => Some(Bare::Iso(Iso2007 {})),
-        2 => Some(Bare::Api(Api {})),
-        _ => None,
+        1 => Ok(Bare::Iso(Iso2007 {})),
+        2 => Ok(Bare::Api(Api {})),
+        _ => Err(PileFault::Edition),
     }
 }
 
@@ -26,31 +28,17 @@ impl Pile {
         ensures fault { MatchResult result (λ _. fault_of_pile edition c can ≡ None) (λ e. fault_of_pile edition c can ≡ Some e) }
         ensures is { IfOk result (λ p. PileNamed p edition c can) }
     {
-        let Some(below) = bare(edition) else {
-            return Err(PileFault::Edition);
-        };
-        if c < 100 || c > 200 {
-            return Err(PileFault::Divisor);
+        let below = bare(edition)?;
+        let c = fair_divisor(c)?;
+        match (c, can) {
+            (100, 0) => Ok(Pile::Plain(below)),
+            (100, 1) => Ok(Pile::Canned(Can { below })),
+            (c, 0) => Ok(Pile::Divided(Divisor { below, c })),
+            (c, 1) => Ok(Pile::CannedDivided(Divisor {
+                below: Can { below },
+                c,
+            })),
+            _ => Err(PileFault::Can),
         }
-        if can < 0 || can > 1 {
-            return Err(PileFault::Can);
-        }
-        if c == 100 && can == 0 {
-            return Ok(Pile::Plain(below));
-        }
-        if c == 100 {
-            return Ok(Pile::Canned(Can { below }));
-        }
-        let hundredths = c as u64;
-        if can == 0 {
-            return Ok(Pile::Divided(Divisor {
-                below,
-                c: hundredths,
-            }));
-        }
-        Ok(Pile::CannedDivided(Divisor {
-            below: Can { below },
-            c: hundredths,
-        }))
     }
 }

@@ -11,6 +11,7 @@ use records::kind::Kind;
 use records::ratios::Ratios;
 use records::record::BraceRecord;
 
+// An enum and not a boxed edition: a card picks one of just these four, and a boxed edition can't be handed out.
 #[derive(Drop)]
 pub enum Pile {
     Plain(Bare),

@@ -1,14 +1,11 @@
 -- Laws of powers of numbers, and of the order of fractions.
 use Rattle.std.proofs.Common.{◌≡◌, ℕ, zero, suc, ◌+◌, ◌*◌, ◌^◌, ◌<◌, ◌≤◌, sym, ap, ◌∙◌, ap₂, le_of_eq, mul-le-mul_right, mul_comm, mul-le-mul, lt_of_mul-lt-mul_right, mul-le-mul_left, mul-lt-mul_of_pos_right, mul-pos, pow-suc, lt_of_not-le, mul-zero, mul-suc, not-le_of_lt, le_of_mul-le-mul_right, arith, pow-add}
-use native.Mathlib.Nat.{pow-zero, mul-mul-mul_comm, pow-le-pow_left, pow-lt-pow_left, le_dest}
+use native.Mathlib.Nat.{pow-zero, pow-le-pow_left, pow-lt-pow_left, le_dest}
 use native.Mathlib.Decide.{dec_le}
+use Rattle.std.proofs.lemmas.Nat.{mul-pow}
 use Rattle.powers.specs.Fractions.{Fraction, den_positive, ◌≤ᶠ◌, ◌<ᶠ◌, ◌*ᶠ◌, ◌+ᶠ◌, ◌^ᶠ◌}
 
 -- numbers
-pub mul_pow : (a b n : ℕ) → (a * b) ^ n ≡ a ^ n * b ^ n
-mul_pow a b zero = simp pow-zero
-mul_pow a b (suc n) = simp pow-suc (rw (mul_pow a b n) (mul-mul-mul_comm (a ^ n) (b ^ n) a b))
-
 pub pow_mul : (a m n : ℕ) → a ^ (m * n) ≡ (a ^ m) ^ n
 pow_mul a m zero = simp (mul-zero, pow-zero)
 pow_mul a m (suc n) = simp (mul-suc, pow-add, pow-suc) (ap (λ (x : ℕ). x * a ^ m) (pow_mul a m n))
@@ -51,10 +48,10 @@ add_cancel f g h p =
     record { across = le_of_mul-le-mul_right {k = h.den * h.den} (omega (arith, p.across)) (mul-pos (den_positive h) (den_positive h)) }
 
 pub pow_mono : {f g : Fraction} (n : ℕ) → f ≤ᶠ g → f ^ᶠ n ≤ᶠ g ^ᶠ n
-pow_mono n p = record { across = simp (← mul_pow) (pow-le-pow_left p.across n) }
+pow_mono n p = record { across = simp (← mul-pow) (pow-le-pow_left p.across n) }
 
 pub pow_root : (f g : Fraction) (n : ℕ) → 0 < n → f ^ᶠ n ≤ᶠ g ^ᶠ n → f ≤ᶠ g
-pow_root f g n p h = record { across = root_le _ _ n p (simp (← mul_pow) at h.across) }
+pow_root f g n p h = record { across = root_le _ _ n p (simp (← mul-pow) at h.across) }
 
 pub swapᶠ : (f : Fraction) (m n : ℕ) → (f ^ᶠ m) ^ᶠ n ≤ᶠ (f ^ᶠ n) ^ᶠ m
 swapᶠ f m n = same (pow_swap f.num m n) (pow_swap f.den m n)
@@ -72,10 +69,10 @@ pub sumᶠ : (f : Fraction) (m n : ℕ) → f ^ᶠ (m + n) ≤ᶠ (f ^ᶠ m) *�
 sumᶠ f m n = same (pow-add f.num m n) (pow-add f.den m n)
 
 pub timesᶠ : (f g : Fraction) (n : ℕ) → (f *ᶠ g) ^ᶠ n ≤ᶠ (f ^ᶠ n) *ᶠ (g ^ᶠ n)
-timesᶠ f g n = same (mul_pow f.num g.num n) (mul_pow f.den g.den n)
+timesᶠ f g n = same (mul-pow f.num g.num n) (mul-pow f.den g.den n)
 
 pub untimesᶠ : (f g : Fraction) (n : ℕ) → (f ^ᶠ n) *ᶠ (g ^ᶠ n) ≤ᶠ (f *ᶠ g) ^ᶠ n
-untimesᶠ f g n = same (sym (mul_pow f.num g.num n)) (sym (mul_pow f.den g.den n))
+untimesᶠ f g n = same (sym (mul-pow f.num g.num n)) (sym (mul-pow f.den g.den n))
 
 -- a fraction that is at least 1 has greater powers at greater exponents
 pub pow_rise : (q : Fraction) (i j : ℕ) → q.den ≤ q.num → i ≤ j → q ^ᶠ i ≤ᶠ q ^ᶠ j

@@ -9,7 +9,6 @@ use Rattle.powers.specs.declared.ends.Ends.{Ends}
 use Rattle.powers.specs.declared.quotient.Quotient.{Quotient}
 use Rattle.powers.specs.Fractions.{Fraction, den_positive, ◌≤ᶠ◌, ◌at_most◌}
 use Rattle.powers.specs.Formulas.{Formula, constant, ◌⊕◌, ◌⊖◌, ◌⊗◌, ◌at_least◌, NotAbove, NotBelow}
-use Rattle.powers.proofs.Fractions.{le_trans, mul_mono}
 use Rattle.powers.proofs.Formulas.{meet}
 use Rattle.powers.proofs.Enclosures.{Encloses, mul_encloses, add_encloses, sub_encloses, greater_encloses}
 use Rattle.powers.specs.Enclosures.{units, held, Near, Is, Room}
@@ -170,16 +169,6 @@ greater_near x y z l h {φ} {ψ} {a} {b} {m} {c} {d} {n} hx hy =
 pub at_most_near : {z : Ends} (f g : Fraction) {a b n : ℕ} → (f.num * g.den ≤ g.num * f.den → Near z (constant f) a b n) → (g.num * f.den ≤ f.num * g.den → Near z (constant g) a b n) → Near z (constant (f at_most g)) a b n
 at_most_near {z} f g {a} {b} {n} p q =
     cond_both _ f g (λ h. Near z (constant h) a b n) (λ t. p (leb-true _ _ t)) (λ t. q (omega (arith, leb-false _ _ t)))
-
--- a product of constants is a constant
-pub merge : {z : Ends} {f g : Fraction} {a b n : ℕ} (q : Fraction) → q.num * (f.den * g.den) ≡ (f.num * g.num) * q.den → Near z (constant f ⊗ constant g) a b n → Near z (constant q) a b n
-merge {z} {f} {g} q s h = record {
-  low = (let (x, y, hx, hy, p) = h.low in le_trans p (le_trans (mul_mono hx hy) (record { across = omega arith })));
-  high = (let (x, y, hx, hy, p) = h.high in le_trans (record { across = omega arith }) (le_trans (mul_mono hx hy) p));
-  least = h.least;
-  most = h.most;
-  tight = h.tight;
-}
 
 -- a bound of the formula is a bound of the low end, but for the width
 pub lift : {z : Ends} {φ : Formula} {a b n : ℕ} (l k : ℕ) → NotAbove φ (units l) → k * (2 ^ 40 + n) ≤ l * 2 ^ 40 → Near z φ a b n → Near z φ k b n

@@ -24,6 +24,7 @@ pub fn power_below(base: Quotient, exponent: Quotient) -> Ends
         product: Ends::ONE,
     };
     let mut rest = exponent.num as u128;
+    // After j turns the digits so far are taken; the proof counts by j.
     for j in 0..32u32 {
         let digit = 2 * rest >= exponent.den as u128;
         at = step(at, digit);

@@ -12,6 +12,18 @@ use std::num::{
     f64_from_bits_with_nan, f64_to_bits_with_nan, nearest_u64_to_f64, saturating_f64_to_u64,
 };
 
+// The numerators whose square roots are taken are below this.
+const SHORT: u64 = 1 << 46;
+
+// A square root is taken of what is counted in squares of a unit.
+const SQUARES: u128 = 1 << 80;
+
+// A fifth root is taken in steps of 2^-23, of what is counted in fifth powers of a step.
+const FIFTH_POWERS: u128 = 1 << 115;
+
+// How many units a step has.
+const STEP: u64 = 1 << 17;
+
 // Whether r is the root of n, rounded down.
 fn is_root(r: u64, n: u128) -> bool
     ensures { T result → (r * r ≤ n) × (n < (r + 1) * (r + 1)) }
@@ -50,18 +62,16 @@ pub(crate) fn guessed_root(q: f64) -> u64 {
 pub fn square_root(r: Quotient) -> Ends
     ensures { SquareRoot r result }
 {
-    if r.num >= 70368744177664 {
+    if r.num >= SHORT {
         return Ends::OPEN;
     }
     let guess = guessed_root(nearest_u64_to_f64(r.num) / nearest_u64_to_f64(r.den));
-    let low = floor_root(
-        r.num as u128 * 1208925819614629174706176 / r.den as u128,
-        guess,
-    );
+    let low = floor_root(r.num as u128 * SQUARES / r.den as u128, guess);
     Ends { low, high: low + 1 }
 }
 
 // The largest number whose n-th power is at most `limit`, which has at most n times `bits` bits.
+// A bisection, and so a `while`: which of the two ends moves is known only from the power of the middle.
 fn floor_nth_root(limit: u128, n: u32, bits: u32) -> u128
     requires some { 0 < n }
     requires narrow { bits < 128 }
@@ -100,16 +110,18 @@ impl UpToOne {
         ensures { (q : Fraction) → Is q self.quotient → Near result (power q (number 1 5)) 796046287437 1099511758848 181039 }
     {
         let x = floor_nth_root(
-            self.quotient.num as u128 * 41538374868278621028243970633760768 / self.quotient.den as u128,
+            self.quotient.num as u128 * FIFTH_POWERS / self.quotient.den as u128,
             5,
             25,
         ) as u64;
         Ends {
-            low: x * 131072,
-            high: (x + 1) * 131072,
+            low: x * STEP,
+            high: (x + 1) * STEP,
         }
     }
 }
+
+// Three functions, and not one by the exponent: each multiplies other powers of the base, and has its own floor and width.
 
 // r to the 6/5, for r from 1/5 to 1; else the ends are open.
 pub fn six_fifths(r: Quotient) -> Ends

@@ -37,14 +37,18 @@ first_of_both (l ∷ ls) ms = go (outside l) (first_of_both ls ms)
     go true e = refl
     go false e = e
 
--- a figure that is not below 0, as it is cast to a whole number
-pub natural : (z : ℤ) → SFits w64 z → pos 0 ≤ℤ z → pos (nat_abs (to_z w64 (of_z w64 z))) ≡ z
-natural (pos n) f h = simp to_z-of_z
-natural (negsuc n) f h = absurd (omega (arith, ints))
+-- a figure that is not below 0, and the whole number that it is cast to
+pub record Whole (z : ℤ) : Type 0 where
+  pub fits : SFits w64 z
+  pub from : pos 0 ≤ℤ z
 
-pub casts : (z : ℤ) → SFits w64 z → pos 0 ≤ℤ z → T (non_neg (to_z w64 (of_z w64 z))) × Fits w64 (nat_abs (to_z w64 (of_z w64 z)))
-casts (pos n) f h = simp to_z-of_z (tt, omega (arith, ints))
-casts (negsuc n) f h = absurd (omega (arith, ints))
+pub cast_is : {z : ℤ} → Whole z → pos (nat_abs (to_z w64 (of_z w64 z))) ≡ z
+cast_is {z = pos n} w = let f = w.fits in simp to_z-of_z
+cast_is {z = negsuc n} w = absurd (omega (arith, ints, w.from))
+
+pub casts : {z : ℤ} → Whole z → T (non_neg (to_z w64 (of_z w64 z))) × Fits w64 (nat_abs (to_z w64 (of_z w64 z)))
+casts {z = pos n} w = let f = w.fits in simp to_z-of_z (tt, omega (arith, ints))
+casts {z = negsuc n} w = absurd (omega (arith, ints, w.from))
 
 -- a figure, and a small multiple of it, fit twice the width
 pub wide : (z : ℤ) → SFits w64 z → SFits w128 z

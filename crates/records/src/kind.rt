@@ -4,13 +4,13 @@ ghost use Rattle.records.specs.Kinds.{number as place};
 // The seven kinds of strength.
 #[derive(Clone, Copy, Debug, PartialEq, Eq)]
 pub enum Kind {
-    KAxial,
-    YTension,
-    YCompression,
-    XTension,
-    XCompression,
-    InPlane,
-    OutOfPlane,
+    KAxial = 1,
+    YTension = 2,
+    YCompression = 3,
+    XTension = 4,
+    XCompression = 5,
+    InPlane = 6,
+    OutOfPlane = 7,
 }
 
 impl Kind {
@@ -18,14 +18,6 @@ impl Kind {
     pub fn number(self) -> u8
         ensures { result ≡ place self }
     {
-        match self {
-            Kind::KAxial => 1,
-            Kind::YTension => 2,
-            Kind::YCompression => 3,
-            Kind::XTension => 4,
-            Kind::XCompression => 5,
-            Kind::InPlane => 6,
-            Kind::OutOfPlane => 7,
-        }
+        self as u8
     }
 }

@@ -1,4 +1,5 @@
-use Rattle.std.proofs.Common.{◌≡◌, ◌+◌, ◌-◌, ◌*◌, arith, lit≤}
+use Rattle.std.proofs.Common.{SFits, w64, rules, ◌≡◌, ◌+◌, ◌-◌, ◌*◌, arith, lit≤}
+use Rattle.std.proofs.lemmas.Int.{to_z-of_z}
 use Rattle.powers.specs.Fractions.{number, ◌*ᶠ◌}
 use Rattle.powers.specs.Enclosures.{units, milli}
 use Rattle.powers.proofs.Laws.{le_refl, less, weaken, lift}
@@ -14,8 +15,9 @@ returns c =
     let n = r.diameter + 20 * lap r.gap - 20 * apart r.gap in
     let m = r.diameter + 20 * apart r.gap - 20 * lap r.gap in
     let whole : (r.diameter + 20 * lap r.gap - 20 * apart r.gap) + (r.diameter + 20 * apart r.gap - 20 * lap r.gap) ≡ 2 * r.diameter = omega arith in
-    let g = c.gap-g.ensures in
-    let o = c.overlap-o.ensures in
+    let fits : SFits w64 r.gap = search rules in
+    let g = simp to_z-of_z at c.above-g.ensures in
+    let o = simp to_z-of_z at c.below-o.ensures in
     let s = of_diameter r n *ᶠ number 1 2 in
     let t = of_diameter r m *ᶠ number 1 2 *ᶠ number 11272112 10000000 in
     let v = c.overlap_value-value.ensures in

@@ -1,4 +1,5 @@
-use Rattle.std.proofs.Common.{◌≡◌, ◌+◌, ◌-◌, ◌*◌, refl, arith, lit≤}
+use Rattle.std.proofs.Common.{SFits, w64, rules, ◌≡◌, ◌+◌, ◌-◌, ◌*◌, refl, arith, lit≤}
+use Rattle.std.proofs.lemmas.Int.{to_z-of_z}
 use Rattle.powers.specs.Fractions.{number, ◌*ᶠ◌}
 use Rattle.powers.specs.Formulas.{constant, power, ◌⊖◌}
 use Rattle.powers.specs.Enclosures.{units, milli}
@@ -15,8 +16,9 @@ returns c =
     let n = r.wall + 5 * lap r.gap - 5 * apart r.gap in
     let m = r.wall + 5 * apart r.gap - 5 * lap r.gap in
     let whole : (r.wall + 5 * lap r.gap - 5 * apart r.gap) + (r.wall + 5 * apart r.gap - 5 * lap r.gap) ≡ 2 * r.wall = omega arith in
-    let g = c.gap-g.ensures in
-    let o = c.overlap-o.ensures in
+    let fits : SFits w64 r.gap = search rules in
+    let g = simp to_z-of_z at c.above-g.ensures in
+    let o = simp to_z-of_z at c.below-o.ensures in
     let s = of_wall r n *ᶠ number 1 2 in
     let t = of_wall r m *ᶠ number 1 2 in
     let v = c.overlap_value-value.ensures in

@@ -1,4 +1,5 @@
-use Rattle.std.proofs.Common.{refl, inr, arith, lit≤}
+use Rattle.std.proofs.Common.{SFits, w64, rules, refl, inr, arith, lit≤}
+use Rattle.std.proofs.lemmas.Int.{to_z-of_z}
 use Rattle.powers.specs.Fractions.{number}
 use Rattle.powers.specs.Formulas.{constant}
 use Rattle.powers.specs.Enclosures.{Near, milli}
@@ -11,7 +12,8 @@ use Rattle.editions.proofs.iso_factors.gap_value.Goals as goal
 pub returns : goal.returns
 returns c =
     let r = c.args.r.now in
-    let g = c.gap-g.ensures in
+    let fits : SFits w64 r.gap = search rules in
+    let g = simp to_z-of_z at c.above-g.ensures in
     let one = c.exact-one.ensures.near (number 1 1) (milli 1000) (milli 1000) refl (lit≤ tt) (lit≤ tt) tt tt in
     let start = c.exact-start.ensures.near (number 19 10) (milli 1900) (milli 1901) refl (lit≤ tt) (lit≤ tt) tt tt in
     let root = c.square_root-root.ensures.near (of_diameter r (apart r.gap)) (milli 141) (milli 901) (is_same g refl) (omega arith) (omega arith) tt (omega arith) in
@@ -20,7 +22,8 @@ returns c =
 pub returns-then-r-g : goal.returns-then-r-g
 returns-then-r-g c =
     let r = c.args.r.now in
-    let g = c.gap-g.ensures in
+    let fits : SFits w64 r.gap = search rules in
+    let g = simp to_z-of_z at c.above-g.ensures in
     let one : Near c.exact-one.result (constant (number 1 1)) (milli 999) (milli 1800) 20 =
     weaken (c.exact-one.ensures.near (number 1 1) (milli 1000) (milli 1000) refl (lit≤ tt) (lit≤ tt) tt tt) (tt, tt, tt) in
     let h = one.high.across in

@@ -1,9 +1,6 @@
-use Rattle.std.proofs.Common.{◌*◌, ◌^◌, mul-le-mul, arith, lit<}
+use Rattle.std.proofs.Common.{◌*◌, ◌^◌, lit<}
 use Rattle.powers.proofs.Nears.{rounded_up, product_near}
 use Rattle.powers.proofs.ops.mul.Goals as goal
-
-pub invariant_of-result : goal.invariant_of-result
-invariant_of-result c = record { ordered = omega (arith, mul-le-mul c.args.x.ordered c.args.y.ordered) }
 
 pub returns : goal.returns
 returns c =

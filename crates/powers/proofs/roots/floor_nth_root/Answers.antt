@@ -10,11 +10,6 @@ loop-low-init c =
     let p : 0 < 2 ^ c.args.bits = pow_pos c.args.bits in
     (omega (arith, zero_pow c.args.n c.requires.some), rw e (subst (λ (x : ℕ). c.args.limit < x) (pow_mul 2 c.args.bits c.args.n) c.requires.below), omega (arith, e, p), omega (arith, e))
 
-pub overflow_add-low : goal.overflow_add-low
-overflow_add-low c =
-    let n : c.args.bits ≤ 127 = omega arith in
-    omega (arith, pow_mono n)
-
 pub overflow_add-middle : goal.overflow_add-middle
 overflow_add-middle c =
     let n : c.args.bits ≤ 127 = omega arith in

@@ -1,7 +1,7 @@
-use Rattle.std.proofs.Common.{◌≡◌, pos, nat_abs, arith, w64, SFits, to_z, of_z, rules}
+use Rattle.std.proofs.Common.{arith, rules}
 use borrow.Author.Differences.{ints}
 use Rattle.records.specs.Limits.{chord_limits}
-use Rattle.records.proofs.Limited.{Holding, held, natural, casts}
+use Rattle.records.proofs.Limited.{Holding, held, Whole, cast_is, casts}
 use Rattle.records.proofs.record.Chord.new.Goals as goal
 use Rattle.records.proofs.record.Chord.new.Goals.{In_ok-within}
 
@@ -9,49 +9,38 @@ module _ (c : goal.In_ok-within) where
   limits : Holding (chord_limits c.args.f)
   limits = held (chord_limits c.args.f) (rw c.limits.ensures at c.in_ok-within.ensures)
 
-  is_diameter : pos (nat_abs (to_z w64 (of_z w64 c.args.f.diameter))) ≡ c.args.f.diameter
-  is_diameter = let h = limits in let f : SFits w64 c.args.f.diameter = search rules in natural c.args.f.diameter f (omega (arith, ints))
+  diameter : Whole c.args.f.diameter
+  diameter = let h = limits in record { fits = search rules; from = omega (arith, ints) }
 
-  is_wall : pos (nat_abs (to_z w64 (of_z w64 c.args.f.wall))) ≡ c.args.f.wall
-  is_wall = let h = limits in let f : SFits w64 c.args.f.wall = search rules in natural c.args.f.wall f (omega (arith, ints))
+  wall : Whole c.args.f.wall
+  wall = let h = limits in record { fits = search rules; from = omega (arith, ints) }
 
-  is_nominal : pos (nat_abs (to_z w64 (of_z w64 c.args.f.nominal))) ≡ c.args.f.nominal
-  is_nominal = let h = limits in let f : SFits w64 c.args.f.nominal = search rules in natural c.args.f.nominal f (omega (arith, ints))
+  nominal : Whole c.args.f.nominal
+  nominal = let h = limits in record { fits = search rules; from = omega (arith, ints) }
 
-  is_fy : pos (nat_abs (to_z w64 (of_z w64 c.args.f.fy))) ≡ c.args.f.fy
-  is_fy = let h = limits in let f : SFits w64 c.args.f.fy = search rules in natural c.args.f.fy f (omega (arith, ints))
+  fy : Whole c.args.f.fy
+  fy = let h = limits in record { fits = search rules; from = omega (arith, ints) }
 
 pub overflow_cast-result : goal.overflow_cast-result
-overflow_cast-result c =
-    let h = limits (goal.at.overflow_cast-result c).In_ok-within in
-    let f : SFits w64 c.args.f.diameter = search rules in
-    casts c.args.f.diameter f (omega (arith, ints))
+overflow_cast-result c = casts (diameter (goal.at.overflow_cast-result c).In_ok-within)
 
 pub overflow_cast-result-2 : goal.overflow_cast-result-2
-overflow_cast-result-2 c =
-    let h = limits (goal.at.overflow_cast-result-2 c).In_ok-within in
-    let f : SFits w64 c.args.f.wall = search rules in
-    casts c.args.f.wall f (omega (arith, ints))
+overflow_cast-result-2 c = casts (wall (goal.at.overflow_cast-result-2 c).In_ok-within)
 
 pub overflow_cast-result-3 : goal.overflow_cast-result-3
-overflow_cast-result-3 c =
-    let h = limits (goal.at.overflow_cast-result-3 c).In_ok-within in
-    let f : SFits w64 c.args.f.nominal = search rules in
-    casts c.args.f.nominal f (omega (arith, ints))
+overflow_cast-result-3 c = casts (nominal (goal.at.overflow_cast-result-3 c).In_ok-within)
 
 pub overflow_cast-result-4 : goal.overflow_cast-result-4
-overflow_cast-result-4 c =
-    let h = limits (goal.at.overflow_cast-result-4 c).In_ok-within in
-    let f : SFits w64 c.args.f.fy = search rules in
-    casts c.args.f.fy f (omega (arith, ints))
+overflow_cast-result-4 c = casts (fy (goal.at.overflow_cast-result-4 c).In_ok-within)
 
 pub invariant_of-result : goal.invariant_of-result
 invariant_of-result c =
-    let h = limits (goal.at.invariant_of-result c).In_ok-within in
-    let d = is_diameter (goal.at.invariant_of-result c).In_ok-within in
-    let t = is_wall (goal.at.invariant_of-result c).In_ok-within in
-    let n = is_nominal (goal.at.invariant_of-result c).In_ok-within in
-    let y = is_fy (goal.at.invariant_of-result c).In_ok-within in
+    let at = (goal.at.invariant_of-result c).In_ok-within in
+    let h = limits at in
+    let d = cast_is (diameter at) in
+    let t = cast_is (wall at) in
+    let n = cast_is (nominal at) in
+    let y = cast_is (fy at) in
     record {
       size = (omega (arith, ints), omega (arith, ints));
       thick = (omega (arith, ints), omega (arith, ints), omega (arith, ints));
@@ -59,10 +48,7 @@ invariant_of-result c =
       strong = (omega (arith, ints), omega (arith, ints));
     }
 
-pub returns : goal.returns
-returns c =
-    let d = (goal.at.returns c).In_ok-within in
-    record {
-      fault = rw c.limits.ensures at c.in_ok-within.ensures;
-      is = record { diameter = is_diameter d; wall = is_wall d; nominal = is_nominal d; fy = is_fy d };
-    }
+pub returns-clause-is : goal.returns-clause-is
+returns-clause-is c =
+    let at = (goal.at.returns-clause-is c).In_ok-within in
+    record { diameter = cast_is (diameter at); wall = cast_is (wall at); nominal = cast_is (nominal at); fy = cast_is (fy at) }
