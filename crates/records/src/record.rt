@@ -32,6 +32,7 @@ pub struct Shares {
 }
 
 // A brace with its chord's figures. The sine of its angle is in millionths, and a gap below 0 is an overlap.
+// The chord's figures are fields here, and not a chord within: an edition's formulas read all of them side by side.
 #[derive(Clone, Copy)]
 pub struct BraceRecord {
     pub diameter: u64,
