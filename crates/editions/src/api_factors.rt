@@ -109,7 +109,7 @@ fn out_of_plane(r: &BraceRecord) -> Ends
     add(start, part)
 }
 
-// The factor of a kind.
+// The factor of a kind. A table beside ISO's and not one for both: which rows the codes share is read off the names.
 pub fn api_factor(r: &BraceRecord, kind: Kind) -> Ends
     ensures { Factor result (factor_by_api r.now kind) }
 {

@@ -123,7 +123,7 @@ fn y_compression(r: &BraceRecord) -> Ends
     y_compression_value(r)
 }
 
-// The factor of a kind.
+// The factor of a kind. A table beside API's and not one for both: which rows the codes share is read off the names.
 pub fn iso_factor(r: &BraceRecord, kind: Kind) -> Ends
     ensures { Factor result (factor_by_iso r.now kind) }
 {

@@ -24,6 +24,7 @@ fn fill(rt: &HostRuntime, buffer: &mut [u8]) -> io::Result<usize>
 }
 
 fn main(rt: HostRuntime) -> io::Result<()> {
+    // A buffer with its count beside it and no Vec, by a rule of the project: it is filled once, and wants no memory.
     let mut buffer = [0u8; 32768];
     let count = fill(&rt, &mut buffer)?;
     let mut beyond = [0u8; 1];

@@ -38,6 +38,7 @@ impl<E> Divisor<E> {
     pub fn new(below: E, c: i64) -> Result<Divisor<E>, NoDivisor<E>>
         ensures { MatchResult result (λ d. DivisorOver d below c) (λ n. NoDivisorOver n below c) }
     {
+        // Not by map and map_err: each of the two would take the edition.
         match fair_divisor(c) {
             Ok(c) => Ok(Divisor { below, c }),
             Err(fault) => Err(NoDivisor { below, fault }),

@@ -17,7 +17,7 @@ use verdicts::force::Force;
 use verdicts::forces::ForceFigures;
 use verdicts::verdict::Verdict;
 
-// The number of a joint or a brace.
+// The number of a joint or a brace. Not `TryFrom`: which of the two it is makes the refusal.
 fn number_of(n: i64, place: Place) -> Result<u32, Refusal>
     ensures { result ≡ ok_or (number_from n) (NumberOutside place) }
 {
@@ -68,6 +68,7 @@ fn keep(best: Option<Worst>, brace: Brace) -> Option<Worst>
     }
 }
 
+// A call takes the numbers of a joint and of a brace apart, as a card has them, each with a refusal of its own.
 impl Tables {
     pub fn new(heap: Global) -> Result<Tables, AllocError>
         ensures { IfOk result (λ t. holding t ≡ empty) }

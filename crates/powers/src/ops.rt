@@ -12,7 +12,7 @@ fn fitted(x: u128) -> u64
     u64::try_from(x).unwrap_or(u64::MAX)
 }
 
-// The ends of an exact quotient.
+// The ends of an exact quotient. Not `From`: that is for what keeps its value, and here a digit may be lost at each end.
 pub fn exact(r: Quotient) -> Ends
     ensures { Exact r result }
 {

@@ -27,6 +27,7 @@ pub struct BraceFigures {
     pub x: i64,
 }
 
+// As they come, with any size: a type beside `Ratios`, which are within their limits.
 #[derive(Clone, Copy)]
 pub struct RatioFigures {
     pub p: i64,

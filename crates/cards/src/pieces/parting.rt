@@ -59,6 +59,7 @@ impl<'a> Iterator for Pieces<'a> {
         let n = until(rest, self.mark);
         let offset = self.at;
         self.at += n + 1;
+        // The places and the numbers are kept by hand, by a rule of the project: a caller can point at what was refused.
         self.count += 1;
         Some(Piece {
             bytes: &rest[..n],
