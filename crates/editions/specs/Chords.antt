@@ -3,7 +3,8 @@
 --     ChordFactor                a quotient num / den whose numerator has a sign
 --     spent f                    f < 1/10
 --     as_fraction f              f without its sign, for a chord that is not spent
---     ChordCoefficients          API's coefficients as they are written, and `written c` the code's c so
+--     ChordCoefficients          C1, C2 and C3 in tenths of 1 / over, C1 as a rise less a fall
+--     written c                  the coefficients that the code's c holds
 --     api_q_f c q                Qf = 1 + C1 P − C2 I − C3 (P² + I² + O²), with P, I and O the ratios over 10,000
 --     tenths c1 c2 c3            coefficients in tenths
 --     coefficients_by_api r k    C1, C2, C3 for the kind k
@@ -42,7 +43,6 @@ spent f = int_lt (pos 10 *ℤ f.num) (pos f.den)
 abbrev pub as_fraction : ChordFactor → Fraction
 as_fraction f = number (up f.num) f.den
 
--- coefficients, the first of them as a rise less a fall
 pub record ChordCoefficients : Type 0 where
   pub over : ℕ
   pub rise : ℕ
@@ -50,7 +50,6 @@ pub record ChordCoefficients : Type 0 where
   pub close : ℕ
   pub square : ℕ
 
--- as the code has them
 abbrev pub written : Coefficients → ChordCoefficients
 written c = record { over = c.over; rise = c.rise; fall = c.fall; close = c.close; square = c.square }
 
