@@ -48,6 +48,7 @@ fn tables_for<E: Edition>(heap: Global, edition: &E) -> Result<Tables, Obstacle>
     Ok(Tables::new(heap)?)
 }
 
+// A call takes the numbers of a joint and of a brace apart, as a card has them, each with a refusal of its own.
 impl<E: Edition> Book<E> {
     // An empty book, or the edition back. No later call on the book asks for memory.
     pub fn new(heap: Global, edition: E) -> Result<Book<E>, Unopened<E>>

@@ -12,13 +12,18 @@ use crate::pile_fault::PileFault;
 use editions::api::Api;
 use editions::iso::Iso2007;
 
-fn bare(edition: i64) -> Result<Bare, PileFault>
-    ensures { MatchResult result (λ b. BareNamed b edition) (λ e. (e ≡ Edition) × (outside (pos 1) edition (pos 2) ≡ true)) }
-{
-    match edition {
-        1 => Ok(Bare::Iso(Iso2007 {})),
-        2 => Ok(Bare::Api(Api {})),
-        _ => Err(PileFault::Edition),
+impl TryFrom<i64> for Bare {
+    type Error = PileFault;
+
+    ghost try_from_gives = { λ n r. MatchResult r (λ b. BareNamed b n) (λ e. (e ≡ Edition) × (outside (pos 1) n (pos 2) ≡ true)) };
+
+    // The edition of this number.
+    fn try_from(edition: i64) -> Result<Bare, PileFault> {
+        match edition {
+            1 => Ok(Bare::Iso(Iso2007 {})),
+            2 => Ok(Bare::Api(Api {})),
+            _ => Err(PileFault::Edition),
+        }
     }
 }
 
@@ -28,7 +33,7 @@ impl Pile {
         ensures fault { MatchResult result (λ _. fault_of_pile edition c can ≡ None) (λ e. fault_of_pile edition c can ≡ Some e) }
         ensures is { IfOk result (λ p. PileNamed p edition c can) }
     {
-        let below = bare(edition)?;
+        let below = Bare::try_from(edition)?;
         let c = fair_divisor(c)?;
         match (c, can) {
             (100, 0) => Ok(Pile::Plain(below)),
