@@ -1,5 +1,5 @@
 -- A line by its fields.
-use Rattle.std.proofs.Common.{◌≡◌, ℕ, ◌<◌, ◌≤◌, Bool, List, ◌∷◌, length, Some, None, Err, sym, ap, ◌∙◌}
+use Rattle.std.proofs.Common.{◌≡◌, ℕ, ◌<◌, ◌≤◌, Bool, List, [], ◌∷◌, length, Some, None, Err, sym, ap, ◌∙◌}
 use Rattle.std.proofs.lemmas.Bool.{cond-true, cond-false, lt-ltb, le-ltb, eq-eqb, ne_eqb}
 use Rattle.cards.specs.declared.word.Word.{Word}
 use Rattle.cards.specs.declared.card.CardFault.TheVariants.{TooLong, NoWord, WrongCount}
@@ -10,6 +10,10 @@ use Rattle.cards.specs.Cards.{numbers_in, by_numbers, by_word, by_fields, card_o
 pub too_long : (ready : Bool) (line : List ℕ) → 120 < length line → Err TooLong ≡ card_of ready line
 unfolding card_of
 too_long ready line h = sym (cond-true _ _ _ (lt-ltb 120 (length line) h))
+
+pub no_field : (ready : Bool) (line : List ℕ) → length line ≤ 120 → fields_of line ≡ [] → Err NoWord ≡ card_of ready line
+unfolding card_of
+no_field ready line short none = sym (cond-false _ _ _ (le-ltb 120 (length line) short) ∙ ap (by_fields ready) none)
 
 -- A line that is short enough, by its first field and the others.
 module _ (ready : Bool) (line : List ℕ) (t : List ℕ) (ts : List (List ℕ)) (short : length line ≤ 120) (split : fields_of line ≡ t ∷ ts) where

@@ -78,3 +78,7 @@ small_mag (negsuc n) h = omega arith
 pub exact : (bs : List ℕ) (r : Option ℤ) (z : ℤ) → ReadsSigned bs r → IsText z bs → r ≡ Some z
 exact bs None z h t = absurd (h z t)
 exact bs (Some y) z h t = ap Some (signed_decimal_injective y z (small_mag y h.0) (small_mag z t.0) (sym h.1 ∙ t.1))
+
+pub plain : (bs : List ℕ) → (get_or bs 0 0 ≡ 45 → ⊥) → ((n : ℕ) → IsPlain n bs → ⊥) → (z : ℤ) → IsText z bs → ⊥
+plain bs no_minus f (pos n) t = f n t
+plain bs no_minus f (negsuc n) t = no_minus (ap (λ (x : List ℕ). get_or x 0 0) t.1)

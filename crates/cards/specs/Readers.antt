@@ -3,9 +3,9 @@
 --     whole c           the bytes that the reader c parts
 --     left c            the pieces that are still to come
 --     seen c            how many came
---     Begins c bs ps    the reader c parts the bytes bs; none came, and the pieces ps are still to come
+--     Begins c bs ps    the reader c parts the bytes bs from their first on; none came, and the pieces ps are still to come
 --     Came c d p        the piece p came, and led from c to d: it is the next of the pieces that are left, begins where c has come to,
---                       and is numbered from 1 on
+--                       and is numbered from 1 on; d has come to behind it and its mark
 --     Steps c r d       r is the next piece; or none where none is left, and then the reader stays as it was
 --
 -- Assumes nothing.
@@ -24,7 +24,7 @@ abbrev pub seen : Pieces → ℕ
 seen c = c.count
 
 abbrev pub Begins : Pieces → List ℕ → List (List ℕ) → Type 0
-Begins c bs ps = (whole c ≡ bs) × (left c ≡ ps) × (seen c ≡ 0)
+Begins c bs ps = (whole c ≡ bs) × (left c ≡ ps) × (seen c ≡ 0) × (c.at ≡ 0)
 
 pub record Came (c d : Pieces) (p : Piece) : Type 0 where
   pub first : left c ≡ p.bytes.now ∷ left d
@@ -33,6 +33,7 @@ pub record Came (c d : Pieces) (p : Piece) : Type 0 where
   pub number : p.number ≡ seen c + 1
   pub count : seen d ≡ seen c + 1
   pub same : whole d ≡ whole c
+  pub behind : d.at ≡ p.offset + length p.bytes.now + 1
 
 abbrev pub Steps : Pieces → Option Piece → Pieces → Type 0
 Steps c None d = (left c ≡ []) × (d ≡ c)

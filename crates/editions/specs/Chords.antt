@@ -7,6 +7,7 @@
 --     written c                  the coefficients that the code's c holds
 --     api_q_f c q                Qf = 1 + C1 P − C2 I − C3 (P² + I² + O²), with P, I and O the ratios over 10,000
 --     tenths c1 c2 c3            coefficients in tenths
+--     coefficients_of_x r        C1, C2, C3 for both kinds of X
 --     coefficients_by_api r k    C1, C2, C3 for the kind k
 --     api_chord_factor r q k     Qf by API
 --     iso_q_f c q                Qf = 1 − w (C1 P² + C2 (I² + O²))

@@ -3,6 +3,7 @@
 --     gapped r             the gap factor of a gap, 1.9 − √(g/D), at least 1
 --     between r            linear in g from the overlap's value at 5 g = −T to 1.9 − √(T/(5D)) at 5 g = T
 --     q_g row r            the gap factor Qg
+--     factor_of_y_compression r    the factor of Y compression, which K takes too
 --     factor_by_iso r k    the factor of the kind k; Y tension and both X kinds are API's
 --
 -- That this is the printed standard is not proved: docs/RULES.md has it to compare. Assumes nothing.

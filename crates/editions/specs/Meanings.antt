@@ -8,6 +8,7 @@
 --     Enclosed m .. l h    l and h millionths are the ends of the strength: l is 0 or not above, h is not below
 --     Tells m .. s         s is what an edition of this meaning tells: the ends of the strength, or none where the chord is spent
 --     bare_strength, bare  the meaning of an edition that is a table of factors and one of chord factors: strength = factor times Qf
+--     api_meaning, iso_meaning    the two codes' meanings
 --     Fine s               the ends of the told strength s are at most 1 part in a million and 3 millionths apart
 --     Millionths z s       s tells the ends z, which are in units, in millionths
 --

@@ -10,7 +10,7 @@ use crate::factors::{overlap_value, x_compression_factor, x_tension_factor, y_te
 use crate::figures::beta;
 use crate::rows::{GapRow, api_gap_row};
 use powers::ends::Ends;
-use powers::ops::{add, exact, mul};
+use powers::ops::exact;
 use powers::quotient::Quotient;
 use powers::roots::{eight_fifths, six_fifths, thirteen_fifths};
 use records::kind::Kind;
@@ -40,12 +40,12 @@ fn between_value(r: &BraceRecord) -> Ends
         den: 2 * r.diameter,
     });
     let value = overlap_value(r);
-    let part = mul(share, value);
+    let part = share * value;
     let rest = exact(Quotient {
         num: (r.diameter + 20 * g - 20 * o) * 11272112,
         den: 20000000 * r.diameter,
     });
-    add(part, rest)
+    part + rest
 }
 
 // Qg. Not one function with ISO's: each code has its own rows, formulas and bounds.
@@ -67,9 +67,9 @@ fn k_axial(r: &BraceRecord) -> Ends
         den: r.wall,
     });
     let power = six_fifths(beta(r));
-    let part = mul(slope, power);
+    let part = slope * power;
     let q = gap_factor(r);
-    mul(part, q)
+    part * q
 }
 
 fn y_compression(r: &BraceRecord) -> Ends
@@ -80,9 +80,9 @@ fn y_compression(r: &BraceRecord) -> Ends
         den: r.wall,
     });
     let power = eight_fifths(beta(r));
-    let part = mul(slope, power);
+    let part = slope * power;
     let start = exact(Quotient { num: 28, den: 10 });
-    add(start, part)
+    start + part
 }
 
 fn in_plane(r: &BraceRecord) -> Ends
@@ -93,7 +93,7 @@ fn in_plane(r: &BraceRecord) -> Ends
         den: 2 * r.wall,
     });
     let power = six_fifths(beta(r));
-    mul(slope, power)
+    slope * power
 }
 
 fn out_of_plane(r: &BraceRecord) -> Ends
@@ -104,9 +104,9 @@ fn out_of_plane(r: &BraceRecord) -> Ends
         den: 10 * r.wall,
     });
     let power = thirteen_fifths(beta(r));
-    let part = mul(slope, power);
+    let part = slope * power;
     let start = exact(Quotient { num: 25, den: 10 });
-    add(start, part)
+    start + part
 }
 
 // The factor of a kind. A table beside ISO's and not one for both: which rows the codes share is read off the names.

@@ -12,7 +12,7 @@ use crate::edition::Edition;
 use crate::strength::Strength;
 use crate::told::millionths;
 use powers::ends::Ends;
-use powers::ops::{exact, mul};
+use powers::ops::exact;
 use powers::quotient::Quotient;
 use records::kind::Kind;
 use records::ratios::Ratios;
@@ -52,7 +52,7 @@ impl<C: Code> Edition for C {
     {
         let left = self.chord_factor(brace, ratios, kind)?;
         let factor = self.factor(brace, kind);
-        let strength = mul(factor, exact(left));
+        let strength = factor * exact(left);
         Some(millionths(strength))
     }
 }

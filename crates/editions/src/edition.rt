@@ -20,7 +20,7 @@ pub trait Edition {
         ensures { result ≡ (meaning self.now).floor };
 
     // The ends of a strength, or none where the chord is spent. The record, the ratios and the kind are three parameters and not one
-    // struct: a host has the first two for a brace, and asks for one kind after the other.
+    // struct: a record stands when a new force brings other ratios, and the kinds are asked one after the other.
     fn tell(&self, brace: &BraceRecord, ratios: Ratios, kind: Kind) -> Option<Strength>
         ensures { Tells (meaning self.now) brace.now ratios kind result };
 

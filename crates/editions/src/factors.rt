@@ -9,7 +9,7 @@ ghost use Rattle.editions.specs.Factors.{Factor, q_beta, overlapped, factor_of_y
 use crate::figures::{beta, gamma};
 use crate::rows::{beta_above_nine_tenths, beta_above_six_tenths};
 use powers::ends::Ends;
-use powers::ops::{add, exact, mul};
+use powers::ops::exact;
 use powers::quotient::Quotient;
 use powers::roots::square_root;
 use records::record::BraceRecord;
@@ -46,9 +46,9 @@ pub fn overlap_value(r: &BraceRecord) -> Ends
         den: 100 * (r.wall * r.fy),
     });
     let root = gamma_root(r);
-    let part = mul(slope, root);
+    let part = slope * root;
     let start = exact(Quotient { num: 13, den: 100 });
-    add(start, part)
+    start + part
 }
 
 pub fn y_tension_factor(r: &BraceRecord) -> Ends
@@ -87,9 +87,9 @@ pub fn x_compression_factor(r: &BraceRecord) -> Ends
         den: 2 * r.wall,
     });
     let b = exact(beta(r));
-    let part = mul(slope, b);
+    let part = slope * b;
     let start = exact(Quotient { num: 28, den: 10 });
-    let sum = add(start, part);
+    let sum = start + part;
     let q = exact(beta_factor(r));
-    mul(sum, q)
+    sum * q
 }

@@ -12,7 +12,7 @@ use crate::factors::{
 use crate::figures::gamma;
 use crate::rows::{GapRow, iso_gap_row};
 use powers::ends::Ends;
-use powers::ops::{add, exact, greater_of, mul, sub};
+use powers::ops::{exact, greater_of};
 use powers::quotient::Quotient;
 use powers::raise::power_below;
 use powers::roots::square_root;
@@ -34,7 +34,7 @@ fn gap_value(r: &BraceRecord) -> Ends
         num: g,
         den: r.diameter,
     });
-    let rest = sub(start, root);
+    let rest = start - root;
     greater_of(rest, one)
 }
 
@@ -49,7 +49,7 @@ fn between_value(r: &BraceRecord) -> Ends
         den: 2 * r.wall,
     });
     let value = overlap_value(r);
-    let part = mul(share, value);
+    let part = share * value;
     let other = exact(Quotient {
         num: r.wall + 5 * g - 5 * o,
         den: 2 * r.wall,
@@ -59,9 +59,9 @@ fn between_value(r: &BraceRecord) -> Ends
         num: r.wall,
         den: 5 * r.diameter,
     });
-    let least = sub(start, root);
-    let rest = mul(other, least);
-    add(part, rest)
+    let least = start - root;
+    let rest = other * least;
+    part + rest
 }
 
 // Qg. Not one function with API's: each code has its own rows, formulas and bounds.
@@ -75,6 +75,7 @@ fn gap_factor(r: &BraceRecord) -> Ends
     }
 }
 
+// The factor of Y compression in its own bounds, which K builds on; `y_compression` says the same in those of every factor.
 fn y_compression_value(r: &BraceRecord) -> Ends
     ensures { Near result (factor_of_y_compression r.now) (milli 4370) (milli 36300) 20 }
 {
@@ -83,7 +84,7 @@ fn y_compression_value(r: &BraceRecord) -> Ends
         den: 10 * r.diameter,
     });
     let root = square_root(beta_factor(r));
-    mul(slope, root)
+    slope * root
 }
 
 fn k_axial(r: &BraceRecord) -> Ends
@@ -91,7 +92,7 @@ fn k_axial(r: &BraceRecord) -> Ends
 {
     let part = y_compression_value(r);
     let q = gap_factor(r);
-    mul(part, q)
+    part * q
 }
 
 fn in_plane(r: &BraceRecord) -> Ends
@@ -102,7 +103,7 @@ fn in_plane(r: &BraceRecord) -> Ends
         den: 2 * r.diameter,
     });
     let root = gamma_root(r);
-    mul(slope, root)
+    slope * root
 }
 
 fn out_of_plane(r: &BraceRecord) -> Ends
@@ -114,7 +115,7 @@ fn out_of_plane(r: &BraceRecord) -> Ends
         den: 2 * (r.diameter * r.diameter),
     };
     let power = power_below(gamma(r), exponent);
-    mul(start, power)
+    start * power
 }
 
 fn y_compression(r: &BraceRecord) -> Ends

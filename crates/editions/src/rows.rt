@@ -14,7 +14,9 @@ pub enum GapRow {
     Overlap,
 }
 
-// Two comparisons and not one by two const parameters: each reads best with its bound multiplied out.
+// Two comparisons and not one with its bound as an argument: each is the rule of its name multiplied out, in one line, which a
+// shared one would only move.
+
 // Whether β is above 0.6.
 pub fn beta_above_six_tenths(r: &BraceRecord) -> bool
     ensures { result ≡ above_six_tenths r.now }

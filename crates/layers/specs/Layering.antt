@@ -1,6 +1,6 @@
 -- Layers over any edition: their laws, what they tell, and the multiplier of a can.
 -- Here and not in proofs/, since an impl's law has to cite them; a reader of the promises needs none of it. Assumes nothing.
-use Rattle.std.specs.Prelude.{◌≡◌, ℕ, ◌+◌, ◌-◌, ◌*◌, ◌/◌, ◌<◌, ◌≤◌, min, refl, Some}
+use Rattle.std.specs.Prelude.{◌≡◌, ℕ, ◌+◌, ◌-◌, ◌*◌, ◌/◌, ◌<◌, ◌≤◌, min, refl, Some, None}
 use Rattle.std.proofs.Common.{ap, mul-le-mul_right, mul-le-mul_left, mul-pos, le_of_mul-le-mul_right, lt_of_mul-lt-mul_right, div-mul-le_self, arith}
 use Rattle.std.proofs.lemmas.Bool.{cond_both, leb-true, leb-false}
 use Rattle.powers.specs.declared.quotient.Quotient.{Quotient}
@@ -100,6 +100,10 @@ module _ (s : BraceRecord → Kind → Positive) (n : ℕ) (m : Meaning) (law : 
             rw x (closer l h l' h' z.num z.den n m.width w most least t.under t.near t.over t.close e.ordered (omega arith) (omega (arith, low, u.firm))
             (e.close (record { narrow = omega arith; firm = f })));
       }
+
+-- a chord is spent as below
+pub scaled_spent : (s : BraceRecord → Kind → Positive) (n : ℕ) (m : Meaning) (b : BraceRecord) (q : Ratios) (k : Kind) → Tells m b q k None → Tells (scaled s n m) b q k None
+scaled_spent s n m b q k e = e
 
 -- a fraction at most 1, and one beyond it
 pub within_one : (f : Fraction) (z : Quotient) → Is f z → z.num ≤ z.den → Is (f at_most number 1 1) z

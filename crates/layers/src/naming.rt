@@ -1,5 +1,6 @@
 // A pile from the three numbers of a card.
-ghost use Rattle.std.specs.Prelude.{◌≡◌, true, pos, IfOk, Some, None, MatchResult};
+ghost use Rattle.std.specs.Prelude.{◌≡◌, true, pos, IfOk, MatchResult};
+ghost use Rattle.records.specs.Limits.{RefusedBy};
 ghost use Rattle.layers.specs.declared.pile_fault.PileFault.TheVariants.{Edition};
 ghost use Rattle.layers.specs.Piles.{BareNamed, PileNamed, fault_of_pile, outside};
 
@@ -30,7 +31,7 @@ impl TryFrom<i64> for Bare {
 impl Pile {
     // The pile that the numbers name, or the first number that names none. A divisor of 100 builds no layer.
     pub fn of(edition: i64, c: i64, can: i64) -> Result<Pile, PileFault>
-        ensures fault { MatchResult result (λ _. fault_of_pile edition c can ≡ None) (λ e. fault_of_pile edition c can ≡ Some e) }
+        ensures fault { RefusedBy (fault_of_pile edition c can) result }
         ensures is { IfOk result (λ p. PileNamed p edition c can) }
     {
         let below = Bare::try_from(edition)?;

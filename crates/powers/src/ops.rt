@@ -5,6 +5,7 @@ ghost use Rattle.powers.specs.Enclosures.{held, Exact, Product, Sum, Difference,
 
 use crate::ends::{Ends, UNIT};
 use crate::quotient::Quotient;
+use std::ops::{Add, Mul, Sub};
 
 fn fitted(x: u128) -> u64
     ensures { result ≡ held x }
@@ -22,29 +23,41 @@ pub fn exact(r: Quotient) -> Ends
     Ends { low, high }
 }
 
-pub fn mul(x: Ends, y: Ends) -> Ends
-    ensures { Product x y result }
-{
-    let low = fitted(x.low as u128 * y.low as u128 / UNIT as u128);
-    let high = fitted((x.high as u128 * y.high as u128).div_ceil(UNIT as u128));
-    Ends { low, high }
+impl Mul for Ends {
+    type Output = Ends;
+
+    ghost mul_gives = { Product };
+
+    fn mul(self, other: Ends) -> Ends {
+        let low = fitted(self.low as u128 * other.low as u128 / UNIT as u128);
+        let high = fitted((self.high as u128 * other.high as u128).div_ceil(UNIT as u128));
+        Ends { low, high }
+    }
 }
 
-pub fn add(x: Ends, y: Ends) -> Ends
-    ensures { Sum x y result }
-{
-    let low = fitted(x.low as u128 + y.low as u128);
-    let high = fitted(x.high as u128 + y.high as u128);
-    Ends { low, high }
+impl Add for Ends {
+    type Output = Ends;
+
+    ghost add_gives = { Sum };
+
+    fn add(self, other: Ends) -> Ends {
+        let low = fitted(self.low as u128 + other.low as u128);
+        let high = fitted(self.high as u128 + other.high as u128);
+        Ends { low, high }
+    }
 }
 
 // The difference, each end 0 where it would be less.
-pub fn sub(x: Ends, y: Ends) -> Ends
-    ensures { Difference x y result }
-{
-    Ends {
-        low: x.low.saturating_sub(y.high),
-        high: x.high.saturating_sub(y.low),
+impl Sub for Ends {
+    type Output = Ends;
+
+    ghost sub_gives = { Difference };
+
+    fn sub(self, other: Ends) -> Ends {
+        Ends {
+            low: self.low.saturating_sub(other.high),
+            high: self.high.saturating_sub(other.low),
+        }
     }
 }
 

@@ -2,7 +2,7 @@
 ghost use Rattle.powers.specs.Enclosures.{Raised};
 
 use crate::ends::Ends;
-use crate::ops::{exact, mul};
+use crate::ops::exact;
 use crate::quotient::Quotient;
 use crate::walk::step;
 use crate::walked::Walked;
@@ -34,7 +34,7 @@ pub fn power_below(base: Quotient, exponent: Quotient) -> Ends
             2 * rest
         };
     }
-    let above = mul(at.product, at.root);
+    let above = at.product * at.root;
     Ends {
         low: at.product.low,
         high: above.high,

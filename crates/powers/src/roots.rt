@@ -5,7 +5,7 @@ ghost use Rattle.powers.specs.Formulas.{power};
 ghost use Rattle.powers.specs.Enclosures.{Near, Is, SquareRoot, UpToOne as IsUpToOne, Fifths};
 
 use crate::ends::{Ends, UNIT};
-use crate::ops::{exact, mul};
+use crate::ops::exact;
 use crate::quotient::Quotient;
 use crate::up_to_one::UpToOne;
 use std::num::{
@@ -130,7 +130,7 @@ pub fn six_fifths(r: Quotient) -> Ends
     let Some(base) = UpToOne::of(r) else {
         return Ends::OPEN;
     };
-    mul(exact(r), base.fifth_root())
+    exact(r) * base.fifth_root()
 }
 
 // r to the 8/5, for r from 1/5 to 1; else the ends are open.
@@ -141,7 +141,7 @@ pub fn eight_fifths(r: Quotient) -> Ends
         return Ends::OPEN;
     };
     let x = base.fifth_root();
-    mul(exact(r), mul(mul(x, x), x))
+    exact(r) * (x * x * x)
 }
 
 // r to the 13/5, for r from 1/5 to 1; else the ends are open.
@@ -153,5 +153,5 @@ pub fn thirteen_fifths(r: Quotient) -> Ends
     };
     let b = exact(r);
     let x = base.fifth_root();
-    mul(mul(b, b), mul(mul(x, x), x))
+    b * b * (x * x * x)
 }

@@ -2,7 +2,6 @@
 ghost use Rattle.powers.specs.Digits.{Halved, Stepped};
 
 use crate::ends::{Ends, UNIT};
-use crate::ops::mul;
 use crate::roots::{floor_root, guessed_root};
 use crate::walked::Walked;
 use std::num::nearest_u64_to_f64;
@@ -38,7 +37,7 @@ pub fn step(s: Walked, digit: bool) -> Walked
 {
     let root = halve(s.root);
     if digit {
-        let product = mul(s.product, root);
+        let product = s.product * root;
         return Walked { root, product };
     }
     Walked {

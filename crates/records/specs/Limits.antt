@@ -8,10 +8,11 @@
 --     ratio_limits f               the rows of the chord's ratios
 --     shares_sum f                 the sum of the shares
 --     brace_fault c f              why f makes no brace at the chord c, if it makes none
+--     RefusedBy why r              the result r is refused by just the fault `why`, and stands where there is none
 --     IsChord c f, IsBrace b c f, IsRatios q f    the record holds just these figures
 --
 -- Assumes nothing.
-use Rattle.std.specs.Prelude.{◌≡◌, Bool, cond, ◌||◌, List, [], ◌∷◌, ℤ, pos, negsuc, ◌+ℤ◌, ◌*ℤ◌, neg_ℤ, Some, None, Option, int_lt}
+use Rattle.std.specs.Prelude.{◌≡◌, Bool, cond, ◌||◌, List, [], ◌∷◌, ℤ, pos, negsuc, ◌+ℤ◌, ◌*ℤ◌, neg_ℤ, Some, None, Option, int_lt, MatchResult, Result}
 use Rattle.records.specs.declared.record.Chord.{Chord}
 use Rattle.records.specs.declared.record.BraceRecord.{BraceRecord}
 use Rattle.records.specs.declared.ratios.Ratios.{Ratios}
@@ -80,6 +81,10 @@ fault_of None s = sum_fault s
 
 abbrev pub brace_fault : Chord → BraceFigures → Option Misfit
 brace_fault c f = fault_of (first_figure_outside (brace_limits c f)) (shares_sum f)
+
+-- What a constructor answers: the record, or the fault that the figures have.
+abbrev pub RefusedBy : {T E : Type 0} → Option E → Result T E → Type 0
+RefusedBy why r = MatchResult r (λ _. why ≡ None) (λ e. why ≡ Some e)
 
 pub record IsChord (c : Chord) (f : ChordFigures) : Type 0 where
   pub diameter : pos c.diameter ≡ f.diameter

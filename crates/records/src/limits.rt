@@ -1,7 +1,7 @@
 // Figures as they come, and the records that they make where they lie within their limits.
-ghost use Rattle.std.specs.Prelude.{◌≡◌, IfOk, Some, None, MatchResult};
+ghost use Rattle.std.specs.Prelude.{◌≡◌, IfOk};
 ghost use Rattle.records.specs.declared.limits.Misfit.TheVariants.{Outside};
-ghost use Rattle.records.specs.Limits.{outside, first_figure_outside, chord_limits, brace_limits, ratio_limits, brace_fault, shares_sum, IsChord, IsBrace, IsRatios};
+ghost use Rattle.records.specs.Limits.{outside, first_figure_outside, chord_limits, brace_limits, ratio_limits, brace_fault, shares_sum, RefusedBy, IsChord, IsBrace, IsRatios};
 
 use crate::ratios::Ratios;
 use crate::record::{BraceRecord, CanFigures, Chord, Shares};
@@ -35,7 +35,7 @@ pub struct RatioFigures {
     pub mo: i64,
 }
 
-// A figure that is outside its limits.
+// A figure that has limits, to name where it is outside them.
 #[derive(Clone, Copy, Debug, PartialEq, Eq)]
 pub enum Figure {
     ChordDiameter,
@@ -93,7 +93,7 @@ impl Limit {
 
 // That every value is within its row, or the figure of the first row whose value is outside.
 pub fn within(limits: &[Limit]) -> Result<(), Figure>
-    ensures { MatchResult result (λ _. first_figure_outside limits.now ≡ None) (λ x. first_figure_outside limits.now ≡ Some x) }
+    ensures { RefusedBy (first_figure_outside limits.now) result }
 {
     for x in limits {
         if x.is_outside() {
@@ -145,7 +145,7 @@ impl ChordFigures {
 impl Chord {
     // The chord, or the first figure that is outside its limits.
     pub fn new(f: ChordFigures) -> Result<Chord, Figure>
-        ensures fault { MatchResult result (λ _. first_figure_outside (chord_limits f) ≡ None) (λ e. first_figure_outside (chord_limits f) ≡ Some e) }
+        ensures fault { RefusedBy (first_figure_outside (chord_limits f)) result }
         ensures is { IfOk result (λ c. IsChord c f) }
     {
         within(&f.limits())?;
@@ -226,7 +226,7 @@ impl BraceFigures {
 impl BraceRecord {
     // The brace at a chord, or the first figure that is outside its limits, or the shares' sum.
     pub fn new(chord: Chord, f: BraceFigures) -> Result<BraceRecord, Misfit>
-        ensures fault { MatchResult result (λ _. brace_fault chord f ≡ None) (λ e. brace_fault chord f ≡ Some e) }
+        ensures fault { RefusedBy (brace_fault chord f) result }
         ensures is { IfOk result (λ b. IsBrace b chord f) }
     {
         within(&f.limits(chord))?;
@@ -288,7 +288,7 @@ impl RatioFigures {
 impl Ratios {
     // The ratios, or the first that is outside its limits.
     pub fn new(f: RatioFigures) -> Result<Ratios, Figure>
-        ensures fault { MatchResult result (λ _. first_figure_outside (ratio_limits f) ≡ None) (λ e. first_figure_outside (ratio_limits f) ≡ Some e) }
+        ensures fault { RefusedBy (first_figure_outside (ratio_limits f)) result }
         ensures is { IfOk result (λ q. IsRatios q f) }
     {
         within(&f.limits())?;

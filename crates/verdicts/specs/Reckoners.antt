@@ -2,6 +2,7 @@
 --
 --     Strengths                 a positive strength for each kind
 --     tension z                 the axial force z is a pull; no force counts as one
+--     kind_of_y, kind_of_x      the kind of Y, or of X, that a pull or a push asks for
 --     InUse b n k               the kind k is in use: an axial one of the force's sign with a share above 0, or a moment's
 --     axial_resistance b n f    (fy T²/100) / sine times the strengths of the classes, averaged by their shares; in newtons
 --     moment_resistance b s     (fy T²/100) / sine times d times the strength s; in newton-millimetres

@@ -1,6 +1,6 @@
 // Figures of a force as they come, and the force that they make where they lie within their limits.
-ghost use Rattle.std.specs.Prelude.{◌≡◌, IfOk, Some, None, MatchResult};
-ghost use Rattle.records.specs.Limits.{first_figure_outside};
+ghost use Rattle.std.specs.Prelude.{◌≡◌, IfOk};
+ghost use Rattle.records.specs.Limits.{first_figure_outside, RefusedBy};
 ghost use Rattle.verdicts.specs.Forces.{newton_limits, force_limits, IsForce};
 
 use crate::force::Force;
@@ -46,7 +46,7 @@ impl ForceFigures {
 impl Force {
     // The force, or the first figure that is outside its limits.
     pub fn new(f: ForceFigures) -> Result<Force, Figure>
-        ensures fault { MatchResult result (λ _. first_figure_outside (force_limits f) ≡ None) (λ e. first_figure_outside (force_limits f) ≡ Some e) }
+        ensures fault { RefusedBy (first_figure_outside (force_limits f)) result }
         ensures is { IfOk result (λ n. IsForce n f) }
     {
         within(&f.limits())?;

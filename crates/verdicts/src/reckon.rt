@@ -111,7 +111,7 @@ fn shared(shares: Shares, k: u64, y: u64, x: u64) -> u128
     shares.k as u128 * k as u128 + shares.y as u128 * y as u128 + shares.x as u128 * x as u128
 }
 
-// The two ends are two calls of `shared`: a function that picks an end of each strength would say no less.
+// Two calls of `shared`, one for each end: a closure that picks an end of each strength would be longer than the call that it saves.
 fn axial_resistance(brace: &BraceRecord, c: &Consulted) -> Resistance
     ensures low { result.low ≡ based brace.now (brace.now.shares.k * c.now.k.low + brace.now.shares.y * c.now.y.low + brace.now.shares.x * c.now.x.low) }
     ensures high { result.high ≡ based brace.now (brace.now.shares.k * c.now.k.high + brace.now.shares.y * c.now.y.high + brace.now.shares.x * c.now.x.high) }

@@ -9,7 +9,8 @@ pub enum Part {
     OutOfPlaneMoment,
 }
 
-// A lower and an upper end, in millionths: what is told, with no bounds of its own.
+// A lower and an upper end, in millionths: what is told, with no bounds of its own. A type beside an edition's `Strength`, so that
+// neither is taken for the other.
 #[derive(Clone, Copy, PartialEq, Eq, Debug)]
 pub struct Ends {
     pub low: u64,

@@ -3,11 +3,14 @@ use Rattle.cards.specs.Pieces.{fields_of}
 use Rattle.cards.specs.Words.{count}
 use Rattle.cards.specs.Readers.{left}
 use Rattle.cards.proofs.Cuts.{fields_few}
-use Rattle.cards.proofs.Shapes.{too_long, no_word, wrong_count, numbered}
+use Rattle.cards.proofs.Shapes.{too_long, no_field, no_word, wrong_count, numbered}
 use Rattle.cards.proofs.reading.parse.Goals as goal
 
 pub returns-then-line-gt120 : goal.returns-then-line-gt120
 returns-then-line-gt120 c = too_long c.args.ready c.args.line.now c.if-line-gt120.true
+
+pub returns-in_default : goal.returns-in_default
+returns-in_default c = no_field c.args.ready c.args.line.now c.if-line-gt120.false (sym c.fields-fields.ensures.1 ∙ c.in_default.ensures.steps.0)
 
 pub returns-in_default-placed_word : goal.returns-in_default-placed_word
 returns-in_default-placed_word c =

@@ -1,5 +1,5 @@
 use Rattle.std.proofs.Common.{◌≡◌, ℕ, ◌+◌, true, List, ◌∷◌, length, take, drop, refl, ap, ◌∙◌, arith, rules}
-use Rattle.std.proofs.lemmas.List.{take_rest}
+use Rattle.std.proofs.lemmas.List.{length-take-le, take_rest}
 use Rattle.cards.proofs.Cuts.{pieces_from, piece_step, front_again}
 use Rattle.cards.proofs.pieces.parting.PiecesIterator.next.Goals as goal
 use Rattle.cards.proofs.pieces.parting.PiecesIterator.next.Goals.{else-is_empty-via-then-is_empty+else-not-self, else-is_empty-via-else-is_empty}
@@ -23,6 +23,7 @@ returns c =
         number = refl;
         count = refl;
         same = refl;
+        behind = omega (arith, length-take-le n rest told.within);
       };
       goes = record { on = λ _. (tt, tt, omega (arith, ap length first)); keeps = tt; rests = λ _. tt };
     }
