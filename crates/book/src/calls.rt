@@ -4,6 +4,7 @@ use records::limits::{BraceFigures, ChordFigures};
 use verdicts::forces::ForceFigures;
 use verdicts::verdict::Verdict;
 
+// A call as a value: as fields it has what the call of its name takes, in its order.
 #[derive(Clone, Copy)]
 pub enum Call {
     Enter {

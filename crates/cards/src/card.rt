@@ -14,6 +14,7 @@ pub struct PileNumbers {
     pub can: i64,
 }
 
+// A card as a value: as fields it has the numbers of its line, in their order.
 #[derive(Clone, Copy)]
 pub enum Card {
     Pile(PileNumbers),

@@ -29,7 +29,8 @@ impl TryFrom<i64> for Bare {
 }
 
 impl Pile {
-    // The pile that the numbers name, or the first number that names none. A divisor of 100 builds no layer.
+    // The pile that the numbers name, or the first number that names none. A divisor of 100 builds no layer. Three numbers and no
+    // struct: they are a card's, whose struct stands above this crate, and a program that has no cards names them one by one.
     pub fn of(edition: i64, c: i64, can: i64) -> Result<Pile, PileFault>
         ensures fault { RefusedBy (fault_of_pile edition c can) result }
         ensures is { IfOk result (λ p. PileNamed p edition c can) }

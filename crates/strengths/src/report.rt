@@ -66,6 +66,7 @@ fn width(strength: Strength) -> u128 {
     (apart as u128 * 1000000000).div_ceil(strength.low as u128)
 }
 
+// One row of the report. Code, joint and kind stay apart: the loops over the codes and the kinds give them one by one.
 fn print_kind<C: Reported>(
     rt: &HostRuntime,
     code: &C,
