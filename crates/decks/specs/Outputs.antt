@@ -17,8 +17,8 @@ use Rattle.ledger.specs.Causes.{Cause}
 use Rattle.ledger.specs.declared.entries.Worst.{Worst}
 use Rattle.ledger.specs.declared.refusal.Refusal.{Refusal}
 use Rattle.decks.specs.declared.fault.Fault.{Fault}
-use Rattle.decks.specs.declared.fault.LineFault.{LineFault}
-use Rattle.decks.specs.declared.fault.CheckLine.{CheckLine}
+use Rattle.decks.specs.declared.output.LineFault.{LineFault}
+use Rattle.decks.specs.declared.output.CheckLine.{CheckLine}
 use Rattle.decks.specs.Faults.{fault_cause}
 
 abbrev pub comma : List ℕ → List ℕ → List ℕ

@@ -2,7 +2,7 @@
 ghost use Rattle.std.specs.Prelude.{◌≡◌, IfOk, Some, string_bytes};
 ghost use Rattle.decks.specs.Outputs.{word_of, check_text, fault_text, worst_text};
 
-use crate::fault::{CheckLine, LineFault};
+use crate::fault::Fault;
 use ledger::entries::Worst;
 use ledger::refusal::Refusal;
 use std::alloc::{AllocError, Global};
@@ -26,6 +26,13 @@ impl fmt::Display for Word {
     }
 }
 
+// A fault, with the line that has it.
+#[derive(Clone, Copy)]
+pub struct LineFault {
+    pub line: usize,
+    pub fault: Fault,
+}
+
 impl fmt::Display for LineFault {
     ghost output = { λ f. Some (fault_text f) };
 
@@ -35,6 +42,14 @@ impl fmt::Display for LineFault {
         let value = self.fault.value();
         write!(f, "REFUSED,{line},{number},{value}\n")
     }
+}
+
+// What a check says: the joint and the brace that it names, and the verdict. An accepted line of any other card says nothing.
+#[derive(Clone, Copy)]
+pub struct CheckLine {
+    pub joint: i64,
+    pub brace: i64,
+    pub verdict: Verdict,
 }
 
 impl fmt::Display for CheckLine {

@@ -3,7 +3,8 @@ ghost use Rattle.std.specs.Prelude.{◌≡◌, Some};
 ghost use Rattle.decks.specs.Desks.{closed};
 ghost use Rattle.decks.specs.Sessions.{desk_with, desk_of, is_desk_open, Opening, Performs, Takes, Stopping};
 
-use crate::fault::{CheckLine, Fault, Stop};
+use crate::fault::{Fault, Stop};
+use crate::output::CheckLine;
 use crate::session::Session;
 use book::book::Book;
 use cards::card::{Card, CardFault, PileNumbers};

@@ -1,13 +1,13 @@
 // Answers a whole input.
 ghost use Rattle.std.specs.Prelude.{◌≡◌, IfOk, string_bytes, Option as Perhaps, Result as Answer};
 ghost use Rattle.decks.specs.declared.fault.Fault.{Fault as LinesFault};
-ghost use Rattle.decks.specs.declared.fault.CheckLine.{CheckLine as ACheckLine};
+ghost use Rattle.decks.specs.declared.output.CheckLine.{CheckLine as ACheckLine};
 ghost use Rattle.decks.specs.Sessions.{desk_of, Takes};
 ghost use Rattle.decks.specs.Outputs.{answer_text};
 ghost use Rattle.decks.specs.Responses.{Ends, Responds};
 
-use crate::fault::{LineFault, Stop};
-use crate::output::worst_line;
+use crate::fault::Stop;
+use crate::output::{LineFault, worst_line};
 use crate::session::Session;
 use cards::piece::Piece;
 use cards::pieces::Pieces;
