@@ -3,6 +3,7 @@
 --     comma x rest         x, a comma and rest
 --     word_of v            PASS, FAIL, NEAR or FAR
 --     refused_text n c     REFUSED, the line n, and the number and the value of the cause c
+--     fault_text f         what is refused of the line's fault f, with its line
 --     check_text c         RESULT, the joint, the brace and the word of the verdict of the check's line c
 --     told_text t          what an accepted line prints: a check's line, and nothing for any other card
 --     answer_text n r      what the line n prints
