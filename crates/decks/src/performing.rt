@@ -52,6 +52,7 @@ fn opened(heap: Global, numbers: PileNumbers) -> Result<Book<Pile>, Stop>
     ensures { Opening numbers result }
 {
     let pile = Pile::of(numbers.edition, numbers.divisor, numbers.can)?;
+    // Every pile is usable, which is a law proved in layers: so nothing but memory can be wanting.
     Book::new(heap, pile).map_err(|_| Stop::Memory)
 }
 
