@@ -100,7 +100,7 @@ fn parse(line: &[u8], ready: bool) -> Result<Card, CardFault>
         return Err(CardFault::TooLong);
     }
     let mut fields = Pieces::fields(line);
-    // By `let .. else` and not by `ok_or` and `?`: that was tried twice, and the proof did not close.
+    // By `let .. else` and not by `ok_or` and `?`: in one step and in two, that was tried, and the proof did not close.
     let Some(first) = fields.next() else {
         return Err(CardFault::NoWord);
     };
