@@ -47,6 +47,7 @@ fn signed_number(field: &[u8]) -> Option<i64>
 }
 
 // The number of a field, exactly where the field is its decimal text and has at most ten digits.
+// It only hands on: `signed_number` makes one promise, and these three are drawn from it here.
 pub fn number(field: &[u8]) -> Option<i64>
     ensures is { result ≡ number_in field.now }
     ensures written { (z : ℤ) → result ≡ Some z → IsText z field.now }
