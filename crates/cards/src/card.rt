@@ -70,8 +70,7 @@ impl CardFault {
         ensures { result ≡ card_fault_value self }
     {
         match self {
-            CardFault::TooLong => 0,
-            CardFault::NoWord => 0,
+            CardFault::TooLong | CardFault::NoWord => 0,
             CardFault::WrongCount(count) => i64::from(count),
             CardFault::NotNumber(fault) => i64::from(fault.field),
         }

@@ -7,6 +7,7 @@ ghost use Rattle.cards.specs.Texts.{ReadsPlain, ReadsSigned};
 const MOST_DIGITS: usize = 10;
 
 // The value of at most ten digits; None where a byte is no digit, or there are more than ten.
+// By hand and not by `str::parse`, which takes a plus sign and any number of digits, and wants text.
 fn digits(field: &[u8]) -> Option<u64>
     ensures { MatchOption result (AllDigits 10 field.now → length field.now ≤ 10 → ⊥) (λ v. (length field.now ≤ 10) × AllDigits 10 field.now × (v ≡ digits_value 10 field.now)) }
 {
@@ -23,7 +24,7 @@ fn digits(field: &[u8]) -> Option<u64>
     Some(n)
 }
 
-// A number without a sign.
+// A number without a sign. Its shapes, and below those with a sign, are told by slice patterns, by a rule of the project.
 fn plain_number(field: &[u8]) -> Option<u64>
     ensures { ReadsPlain field.now result }
 {
@@ -46,6 +47,7 @@ fn signed_number(field: &[u8]) -> Option<i64>
 }
 
 // The number of a field, exactly where the field is its decimal text and has at most ten digits.
+// It only hands on: `signed_number` makes one promise, and these three are drawn from it here.
 pub fn number(field: &[u8]) -> Option<i64>
     ensures is { result ≡ number_in field.now }
     ensures written { (z : ℤ) → result ≡ Some z → IsText z field.now }

@@ -1,7 +1,7 @@
 // A reader of the pieces of lent bytes.
 ghost use Rattle.std.specs.Prelude.{◌+◌, ◌≤◌, length};
 
-pub mod counting;
+pub mod numbers;
 pub mod parting;
 
 // The mark that parts them, and whether a last piece stands behind the last mark even if it is empty; where the next piece begins,

@@ -100,7 +100,7 @@ fn parse(line: &[u8], ready: bool) -> Result<Card, CardFault>
         return Err(CardFault::TooLong);
     }
     let mut fields = Pieces::fields(line);
-    // By `let .. else` and not by `ok_or` and `?`: that was tried twice, and the proof did not close.
+    // By `let .. else` and not by `ok_or` and `?`: in one step and in two, that was tried, and the proof did not close.
     let Some(first) = fields.next() else {
         return Err(CardFault::NoWord);
     };
@@ -115,6 +115,7 @@ fn parse(line: &[u8], ready: bool) -> Result<Card, CardFault>
 }
 
 // The card of a line, or its first fault. A line is accepted exactly where it is the text of a card that may stand there.
+// It only hands on: `parse` makes the one computed promise, and the others are drawn from it here.
 pub fn read(line: &[u8], ready: bool) -> Result<Card, CardFault>
     ensures is { result ≡ card_of ready line.now }
     ensures written { (c : ACard) → result ≡ Ok c → line.now ≡ card_text c }

@@ -44,10 +44,7 @@ impl Word {
     {
         match self {
             Word::Pile => !ready,
-            Word::Joint => ready,
-            Word::Brace => ready,
-            Word::Force => ready,
-            Word::Check => ready,
+            Word::Joint | Word::Brace | Word::Force | Word::Check => ready,
         }
     }
 }

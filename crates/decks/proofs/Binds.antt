@@ -16,7 +16,7 @@ use Rattle.cards.specs.declared.card.Card.TheVariants as card
 use Rattle.cards.specs.declared.card.CardFault.{CardFault}
 use Rattle.cards.specs.Cards.{card_of}
 use Rattle.decks.specs.declared.fault.Fault.{Fault}
-use Rattle.decks.specs.declared.fault.CheckLine.{CheckLine}
+use Rattle.decks.specs.declared.output.CheckLine.{CheckLine}
 use Rattle.decks.specs.Desks.{Desk, closed, kept_by}
 use Rattle.decks.specs.Sessions.{is_desk_open, Performs, on_card}
 use Rattle.decks.specs.Responses.{Reads, end, next, Binding}

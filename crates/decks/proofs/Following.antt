@@ -3,7 +3,7 @@ use Rattle.std.proofs.Common.{◌≡◌, ℕ, ◌+◌, List, [], ◌∷◌, ◌+
 use Rattle.std.proofs.lemmas.List.{length_push}
 use Rattle.cards.specs.Pieces.{lines_of}
 use Rattle.decks.specs.declared.fault.Fault.{Fault}
-use Rattle.decks.specs.declared.fault.CheckLine.{CheckLine}
+use Rattle.decks.specs.declared.output.CheckLine.{CheckLine}
 use Rattle.decks.specs.Desks.{Desk, closed}
 use Rattle.decks.specs.Sessions.{Takes}
 use Rattle.decks.specs.Outputs.{answer_text}

@@ -1,3 +1,4 @@
+mod Lines
 mod Turning
 mod Binds
 mod Following

@@ -10,7 +10,7 @@ use Rattle.book.specs.Steps.{ledger_of}
 use Rattle.cards.specs.declared.card.PileNumbers.{PileNumbers}
 use Rattle.cards.specs.declared.card.Card.{Card}
 use Rattle.cards.specs.declared.card.Card.TheVariants.{Brace, Force, Pile as PileCard}
-use Rattle.decks.specs.declared.fault.CheckLine.{CheckLine}
+use Rattle.decks.specs.declared.output.CheckLine.{CheckLine}
 use Rattle.decks.specs.declared.fault.Fault.{Fault}
 use Rattle.decks.specs.declared.fault.Fault.TheVariants.{Book as OfBook}
 use Rattle.decks.specs.declared.fault.Stop.{Stop}

@@ -18,7 +18,7 @@ use Rattle.ledger.specs.declared.refusal.Refusal.{Refusal}
 use Rattle.book.specs.Standing.{Standing}
 use Rattle.cards.specs.Pieces.{lines_of}
 use Rattle.decks.specs.declared.fault.Fault.{Fault}
-use Rattle.decks.specs.declared.fault.CheckLine.{CheckLine}
+use Rattle.decks.specs.declared.output.CheckLine.{CheckLine}
 use Rattle.decks.specs.Desks.{Desk, closed, kept_by}
 use Rattle.decks.specs.Sessions.{Takes}
 use Rattle.decks.specs.Outputs.{answer_text, none_worst, worst_text}

@@ -33,7 +33,7 @@ use Rattle.decks.specs.declared.fault.Fault.{Fault}
 use Rattle.decks.specs.declared.fault.Fault.TheVariants as fault
 use Rattle.decks.specs.declared.fault.Stop.{Stop}
 use Rattle.decks.specs.declared.fault.Stop.TheVariants.{Refused, Memory}
-use Rattle.decks.specs.declared.fault.CheckLine.{CheckLine}
+use Rattle.decks.specs.declared.output.CheckLine.{CheckLine}
 use Rattle.decks.specs.Desks.{Desk, closed, kept_by}
 
 abbrev pub desk_with : Option (Book Pile) → Desk

@@ -1,4 +1,4 @@
-// Why a line is refused, and what an accepted one says.
+// Why a line is refused.
 ghost use Rattle.std.specs.Prelude.{◌≡◌};
 ghost use Rattle.decks.specs.declared.fault.Fault.TheVariants.{Card as OfCard, Pile as OfPile, Book as OfBook};
 ghost use Rattle.decks.specs.declared.fault.Stop.TheVariants.{Refused};
@@ -7,7 +7,6 @@ ghost use Rattle.decks.specs.Faults.{fault_cause};
 use cards::card::CardFault;
 use layers::pile_fault::PileFault;
 use ledger::refusal::Refusal;
-use verdicts::verdict::Verdict;
 
 #[derive(Clone, Copy)]
 pub enum Fault {
@@ -63,14 +62,6 @@ impl Fault {
     }
 }
 
-// What a check says: the joint and the brace that it names, and the verdict. An accepted line of any other card says nothing.
-#[derive(Clone, Copy)]
-pub struct CheckLine {
-    pub joint: i64,
-    pub brace: i64,
-    pub verdict: Verdict,
-}
-
 // What keeps a line from being accepted: a fault, which is told, or a want of memory, which ends the session.
 #[derive(Clone, Copy)]
 pub enum Stop {
@@ -100,11 +91,4 @@ impl From<PileFault> for Stop {
     fn from(fault: PileFault) -> Stop {
         Stop::Refused(Fault::Pile(fault))
     }
-}
-
-// A fault, with the line that has it.
-#[derive(Clone, Copy)]
-pub struct LineFault {
-    pub line: usize,
-    pub fault: Fault,
 }

@@ -1,11 +1,10 @@
 // What is printed.
-ghost use Rattle.std.specs.Prelude.{◌≡◌, IfOk, Some, string_bytes};
-ghost use Rattle.decks.specs.Outputs.{word_of, check_text, fault_text, worst_text};
+ghost use Rattle.std.specs.Prelude.{◌≡◌, Some};
+ghost use Rattle.decks.specs.Outputs.{word_of, check_text, fault_text, last_text, worst_text};
 
-use crate::fault::{CheckLine, LineFault};
+use crate::fault::Fault;
 use ledger::entries::Worst;
 use ledger::refusal::Refusal;
-use std::alloc::{AllocError, Global};
 use std::fmt;
 use verdicts::verdict::Verdict;
 
@@ -26,6 +25,13 @@ impl fmt::Display for Word {
     }
 }
 
+// A fault, with the line that has it.
+#[derive(Clone, Copy)]
+pub struct LineFault {
+    pub line: usize,
+    pub fault: Fault,
+}
+
 impl fmt::Display for LineFault {
     ghost output = { λ f. Some (fault_text f) };
 
@@ -35,6 +41,14 @@ impl fmt::Display for LineFault {
         let value = self.fault.value();
         write!(f, "REFUSED,{line},{number},{value}\n")
     }
+}
+
+// What a check says: the joint and the brace that it names, and the verdict. An accepted line of any other card says nothing.
+#[derive(Clone, Copy)]
+pub struct CheckLine {
+    pub joint: i64,
+    pub brace: i64,
+    pub verdict: Verdict,
 }
 
 impl fmt::Display for CheckLine {
@@ -48,13 +62,39 @@ impl fmt::Display for CheckLine {
     }
 }
 
-pub(crate) fn worst_line(heap: Global, worst: Result<Worst, Refusal>) -> Result<String, AllocError>
-    ensures { IfOk result (λ s. string_bytes s ≡ worst_text worst) }
-{
-    let Ok(worst) = worst else {
-        return String::from_str(heap, "WORST,0,0\n");
-    };
-    let joint = worst.joint;
-    let brace = worst.brace;
-    format!(in heap; "WORST,{joint},{brace}\n")
+// What ends the output: the brace whose standing check reaches highest and its joint, or 0 and 0 where no check stands.
+#[derive(Clone, Copy)]
+pub(crate) struct WorstLine {
+    joint: u32,
+    brace: u32,
+}
+
+impl WorstLine {
+    pub(crate) const NONE: WorstLine = WorstLine { joint: 0, brace: 0 };
+}
+
+impl From<Result<Worst, Refusal>> for WorstLine {
+    ghost from_gives = { λ r l. last_text l.joint l.brace ≡ worst_text r };
+
+    #[tactic(auto, using(crate::proofs::Lines::zeros))]
+    fn from(worst: Result<Worst, Refusal>) -> WorstLine {
+        match worst {
+            Ok(worst) => WorstLine {
+                joint: worst.joint,
+                brace: worst.brace,
+            },
+            // The one refusal of a worst is that no check stands.
+            Err(_) => WorstLine::NONE,
+        }
+    }
+}
+
+impl fmt::Display for WorstLine {
+    ghost output = { λ l. Some (last_text l.joint l.brace) };
+
+    fn fmt<W: fmt::Write>(&self, f: &mut fmt::Formatter<W>) -> fmt::Result {
+        let joint = self.joint;
+        let brace = self.brace;
+        write!(f, "WORST,{joint},{brace}\n")
+    }
 }

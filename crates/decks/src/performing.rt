@@ -3,7 +3,8 @@ ghost use Rattle.std.specs.Prelude.{◌≡◌, Some};
 ghost use Rattle.decks.specs.Desks.{closed};
 ghost use Rattle.decks.specs.Sessions.{desk_with, desk_of, is_desk_open, Opening, Performs, Takes, Stopping};
 
-use crate::fault::{CheckLine, Fault, Stop};
+use crate::fault::{Fault, Stop};
+use crate::output::CheckLine;
 use crate::session::Session;
 use book::book::Book;
 use cards::card::{Card, CardFault, PileNumbers};
@@ -51,6 +52,7 @@ fn opened(heap: Global, numbers: PileNumbers) -> Result<Book<Pile>, Stop>
     ensures { Opening numbers result }
 {
     let pile = Pile::of(numbers.edition, numbers.divisor, numbers.can)?;
+    // Every pile is usable, which is a law proved in layers: so nothing but memory can be wanting.
     Book::new(heap, pile).map_err(|_| Stop::Memory)
 }
 

@@ -1,13 +1,13 @@
 // Answers a whole input.
 ghost use Rattle.std.specs.Prelude.{◌≡◌, IfOk, string_bytes, Option as Perhaps, Result as Answer};
 ghost use Rattle.decks.specs.declared.fault.Fault.{Fault as LinesFault};
-ghost use Rattle.decks.specs.declared.fault.CheckLine.{CheckLine as ACheckLine};
+ghost use Rattle.decks.specs.declared.output.CheckLine.{CheckLine as ACheckLine};
 ghost use Rattle.decks.specs.Sessions.{desk_of, Takes};
 ghost use Rattle.decks.specs.Outputs.{answer_text};
 ghost use Rattle.decks.specs.Responses.{Ends, Responds};
 
-use crate::fault::{LineFault, Stop};
-use crate::output::worst_line;
+use crate::fault::Stop;
+use crate::output::{LineFault, WorstLine};
 use crate::session::Session;
 use cards::piece::Piece;
 use cards::pieces::Pieces;
@@ -36,12 +36,13 @@ impl Session {
     }
 
     // The line that ends the output.
+    #[tactic(auto, using(crate::proofs::Lines::zeros))]
     fn last(&self) -> Result<String, AllocError>
         ensures { IfOk result (λ s. Ends (desk_of self.now) (string_bytes s)) }
     {
         match &self.book {
-            Some(book) => worst_line(self.heap, book.worst()),
-            None => String::from_str(self.heap, "WORST,0,0\n"),
+            Some(book) => WorstLine::from(book.worst()).to_string(self.heap),
+            None => WorstLine::NONE.to_string(self.heap),
         }
     }
 }

@@ -7,7 +7,7 @@ use decks::respond::{TOO_LONG, respond};
 use std::io;
 use std::io::{Read, Write};
 
-// Fills the buffer from standard input: how many bytes came.
+// Fills the buffer from standard input: how many bytes came. By a `while`: how many a read brings is known only from that read.
 fn fill(rt: &HostRuntime, buffer: &mut [u8]) -> io::Result<usize>
     ensures { IfOk result (λ n. n ≤ length buffer.old) }
 {

@@ -16,7 +16,7 @@ impl Pieces<'_> {
     {
         let field = self.count as u8 + 1;
         self.next()
-            .and_then(|field| number(field.bytes))
+            .and_then(|piece| number(piece.bytes))
             .ok_or(NumberFault { field })
     }
 
