@@ -184,9 +184,7 @@ impl Tables {
     {
         let i = self.standing(joint, brace)?;
         let held = self.braces[i];
-        if held.force.is_none() {
-            return Err(Refusal::NotLoaded);
-        }
+        let _ = held.force.ok_or(Refusal::NotLoaded)?;
         self.braces[i] = held.with_check(verdict);
         Ok(())
     }
