@@ -9,7 +9,7 @@ ghost use Rattle.ledger.specs.Worsts.{reach, with_brace, WorstOf, Names};
 
 use crate::entries::{Brace, Joint, Worst};
 use crate::refusal::{Place, Refusal, Room};
-use crate::tables::Tables;
+use crate::tables::{MOST_BRACES, MOST_BRACES_AT_JOINT, MOST_JOINTS, Tables};
 use records::limits::{BraceFigures, ChordFigures};
 use records::record::{BraceRecord, Chord};
 use std::alloc::{AllocError, Global};
@@ -73,8 +73,8 @@ impl Tables {
     pub fn new(heap: Global) -> Result<Tables, AllocError>
         ensures { IfOk result (λ t. holding t ≡ empty) }
     {
-        let joints = Vec::with_capacity(heap, 16)?;
-        let braces = Vec::with_capacity(heap, 96)?;
+        let joints = Vec::with_capacity(heap, MOST_JOINTS)?;
+        let braces = Vec::with_capacity(heap, MOST_BRACES)?;
         Ok(Tables { joints, braces })
     }
 
@@ -105,7 +105,7 @@ impl Tables {
         if self.joint_at(number).is_ok() {
             return Err(Refusal::NumberInUse(Place::Joint));
         }
-        if self.joints.len() >= 16 {
+        if self.joints.len() >= MOST_JOINTS {
             return Err(Refusal::Full(Room::Joints));
         }
         let chord = Chord::new(figures)?;
@@ -131,10 +131,10 @@ impl Tables {
             return Err(Refusal::NumberInUse(Place::Brace));
         }
         let i = self.joint_at(n)?;
-        if self.braces.len() >= 96 {
+        if self.braces.len() >= MOST_BRACES {
             return Err(Refusal::Full(Room::Braces));
         }
-        if self.count_at(n) >= 8 {
+        if self.count_at(n) >= MOST_BRACES_AT_JOINT {
             return Err(Refusal::Full(Room::BracesAtJoint));
         }
         let figures = BraceRecord::new(self.joints[i].chord, figures)?;
