@@ -37,7 +37,7 @@ fn numbers_of(joint: i64, brace: i64) -> Result<(u32, u32), Refusal>
     ))
 }
 
-// How far up a verdict reaches: FAR beyond every end.
+// How far up a verdict reaches: FAR beyond every end. An Option of the end would put none below every end.
 #[derive(Clone, Copy, PartialEq, Eq, PartialOrd, Ord)]
 enum Reach {
     End(u64),
@@ -68,7 +68,6 @@ fn keep(best: Option<Worst>, brace: Brace) -> Option<Worst>
     }
 }
 
-// A call takes the numbers of a joint and of a brace apart, as a card has them, each with a refusal of its own.
 impl Tables {
     pub fn new(heap: Global) -> Result<Tables, AllocError>
         ensures { IfOk result (λ t. holding t ≡ empty) }
@@ -123,6 +122,8 @@ impl Tables {
             .count()
     }
 
+    // The two numbers are parameters and no struct, here and below: enter and withdraw have the joint's alone, and a refusal
+    // names the one of the two that it is for.
     pub fn add(&mut self, joint: i64, brace: i64, figures: BraceFigures) -> Result<(), Refusal>
         ensures { Adds joint brace figures (holding self.old) (holding self.new) result }
     {
