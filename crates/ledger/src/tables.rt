@@ -7,9 +7,10 @@ use crate::entries::{Brace, Joint};
 // How many joints a book has room for.
 pub(crate) const MOST_JOINTS: usize = 16;
 
-// How many braces a book has room for, and how many of them may stand at one joint.
+// How many braces a book has room for.
 pub(crate) const MOST_BRACES: usize = 96;
 
+// How many braces may stand at one joint.
 pub(crate) const MOST_BRACES_AT_JOINT: usize = 8;
 
 // No `impl Model`: a clause on two tables would then compare only what they hold, and the book's promise that a want of memory leaves it as it was would say less.
