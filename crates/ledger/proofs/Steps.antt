@@ -1,5 +1,5 @@
 -- What each call's tests come to, over plain variables.
-use Rattle.std.proofs.Common.{◌≡◌, ℕ, true, false, not, leb, [], ◌∷◌, length, get_or, set, ℤ, pos, is_some, IsErrAnd, Some, None, Ok, Err, count_by, Option, Result, w64, SFits, to_z, of_z, sym, refl, ap, ◌∙◌, arith}
+use Rattle.std.proofs.Common.{◌≡◌, ℕ, true, false, not, leb, [], ◌∷◌, length, get_or, set, ℤ, pos, is_some, IsErrAnd, Some, None, Ok, Err, count_by, Option, Result, w64, SFits, to_z, of_z, sym, refl, ap, ◌∙◌}
 use Rattle.std.proofs.lemmas.Bool.{cond-true, cond-false}
 use Rattle.std.proofs.lemmas.Int.{to_z-of_z}
 use Rattle.std.specs.Option.{ok_or}
@@ -10,7 +10,6 @@ use Rattle.records.specs.declared.record.Chord.{Chord}
 use Rattle.ledger.specs.declared.refusal.Refusal.{Refusal}
 use Rattle.ledger.specs.declared.refusal.Refusal.TheVariants.{Unknown}
 use Rattle.ledger.specs.declared.refusal.Place.TheVariants.{Brace as PlaceOfBrace}
-use Rattle.verdicts.specs.declared.force.Force.{Force}
 use Rattle.verdicts.specs.Forces.{force_limits}
 use Rattle.verdicts.specs.declared.forces.ForceFigures.{ForceFigures}
 use Rattle.ledger.specs.declared.entries.Brace.{Brace}
@@ -96,7 +95,3 @@ load_limits j b f l i at = ap (λ r. load_at r f) at.stands
 
 pub note_limits : (j b : ℤ) (l : Ledger) (i : ℕ) (at : At j b l i) → note_cause j b l ≡ force_cause at.found.held.force
 note_limits j b l i at = ap note_at at.stands
-
-pub has_force : (o : Option Force) → is_some o ≡ true → force_cause o ≡ None
-has_force None h = let z : ◌≡◌ {A = ℕ} 0 1 = cc in absurd (omega arith)
-has_force (Some n) h = refl

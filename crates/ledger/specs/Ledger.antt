@@ -1,13 +1,16 @@
 -- The ledger: what stands in a book, and what each call does to it.
 --
 --     Ledger                     joints in order of entering, braces in order of adding
+--     empty                      no joints and no braces
 --     holding t                  what the tables t hold
 --     number_from z              z as a joint's or a brace's number, if it is from 1 to 999
+--     numbers_at n m             the two numbers, where both are; else the refusal of the first that is none
 --     numbers_from j b           both, of a joint and of a brace, or the first that is none
 --     find p xs                  the first of xs that passes p, as the library has it
 --     amend p f xs               the first that passes is changed by f
 --     without p xs               the first that passes is taken out
 --     is_joint, is_brace         the joint with this number, the brace with this number at this joint
+--     at_joint, elsewhere        a brace at this joint, a brace at another
 --     first_cause ts x           the cause of the first test of ts that holds; else x
 --     Does why then l m r        r is what a call answers: a refusal by the cause why, which leaves the ledger as it was, or, with no cause, then
 --     DoesWith why then l m r    the same, where `then` speaks of the answer
@@ -16,6 +19,8 @@
 --     Enters, Adds, Loads, Notes, Withdraws    both: what the call answers, and what then stands
 --     standing j b l             the brace of these numbers, or why there is none
 --     Amended j b f l m          m is l with that brace changed by f
+--     brace_with_force n b       b with the force n, and with no check
+--     brace_with_check v b       b with the check v
 --     Told j b l r               r is the record and the force of that brace, or why there are none
 --
 -- Assumes nothing.

@@ -9,7 +9,7 @@ ghost use Rattle.ledger.specs.Worsts.{reach, with_brace, WorstOf, Names};
 
 use crate::entries::{Brace, Joint, Worst};
 use crate::refusal::{Place, Refusal, Room};
-use crate::tables::Tables;
+use crate::tables::{MOST_BRACES, MOST_BRACES_AT_JOINT, MOST_JOINTS, Tables};
 use records::limits::{BraceFigures, ChordFigures};
 use records::record::{BraceRecord, Chord};
 use std::alloc::{AllocError, Global};
@@ -37,7 +37,7 @@ fn numbers_of(joint: i64, brace: i64) -> Result<(u32, u32), Refusal>
     ))
 }
 
-// How far up a verdict reaches: FAR beyond every end.
+// How far up a verdict reaches: FAR beyond every end. An Option of the end would put none below every end.
 #[derive(Clone, Copy, PartialEq, Eq, PartialOrd, Ord)]
 enum Reach {
     End(u64),
@@ -68,13 +68,12 @@ fn keep(best: Option<Worst>, brace: Brace) -> Option<Worst>
     }
 }
 
-// A call takes the numbers of a joint and of a brace apart, as a card has them, each with a refusal of its own.
 impl Tables {
     pub fn new(heap: Global) -> Result<Tables, AllocError>
         ensures { IfOk result (λ t. holding t ≡ empty) }
     {
-        let joints = Vec::with_capacity(heap, 16)?;
-        let braces = Vec::with_capacity(heap, 96)?;
+        let joints = Vec::with_capacity(heap, MOST_JOINTS)?;
+        let braces = Vec::with_capacity(heap, MOST_BRACES)?;
         Ok(Tables { joints, braces })
     }
 
@@ -105,7 +104,7 @@ impl Tables {
         if self.joint_at(number).is_ok() {
             return Err(Refusal::NumberInUse(Place::Joint));
         }
-        if self.joints.len() >= 16 {
+        if self.joints.len() >= MOST_JOINTS {
             return Err(Refusal::Full(Room::Joints));
         }
         let chord = Chord::new(figures)?;
@@ -123,6 +122,8 @@ impl Tables {
             .count()
     }
 
+    // The two numbers are parameters and no struct, here and below: enter and withdraw have the joint's alone, and a refusal
+    // names the one of the two that it is for.
     pub fn add(&mut self, joint: i64, brace: i64, figures: BraceFigures) -> Result<(), Refusal>
         ensures { Adds joint brace figures (holding self.old) (holding self.new) result }
     {
@@ -131,10 +132,10 @@ impl Tables {
             return Err(Refusal::NumberInUse(Place::Brace));
         }
         let i = self.joint_at(n)?;
-        if self.braces.len() >= 96 {
+        if self.braces.len() >= MOST_BRACES {
             return Err(Refusal::Full(Room::Braces));
         }
-        if self.count_at(n) >= 8 {
+        if self.count_at(n) >= MOST_BRACES_AT_JOINT {
             return Err(Refusal::Full(Room::BracesAtJoint));
         }
         let figures = BraceRecord::new(self.joints[i].chord, figures)?;
@@ -184,9 +185,7 @@ impl Tables {
     {
         let i = self.standing(joint, brace)?;
         let held = self.braces[i];
-        if held.force.is_none() {
-            return Err(Refusal::NotLoaded);
-        }
+        let _ = held.force.ok_or(Refusal::NotLoaded)?;
         self.braces[i] = held.with_check(verdict);
         Ok(())
     }

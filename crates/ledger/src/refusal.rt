@@ -3,6 +3,7 @@ ghost use Rattle.std.specs.Prelude.{◌≡◌};
 ghost use Rattle.ledger.specs.declared.refusal.Refusal.TheVariants.{Outside, NoBrace, Spent as SpentChord};
 ghost use Rattle.ledger.specs.Causes.{cause, place_field, room_limit};
 
+use crate::tables::{MOST_BRACES, MOST_BRACES_AT_JOINT, MOST_JOINTS};
 use records::limits::{Figure, Misfit};
 use verdicts::verdict::Spent;
 
@@ -73,9 +74,9 @@ impl Room {
         ensures { result ≡ room_limit self }
     {
         match self {
-            Room::Joints => 16,
-            Room::Braces => 96,
-            Room::BracesAtJoint => 8,
+            Room::Joints => MOST_JOINTS as i64,
+            Room::Braces => MOST_BRACES as i64,
+            Room::BracesAtJoint => MOST_BRACES_AT_JOINT as i64,
         }
     }
 }

@@ -1,6 +1,7 @@
 -- Which row of a code's table a strength comes from.
 --
 --     beta_row x r      whether β is above the bound x, 0.6 or 0.9, or up to it
+--     row_of g b        the row with the gap's row g and β's row b, where the table asks for them
 --     row_by_iso r k    ISO's row for the kind k: K asks for the gap and for β about 0.6, compression of Y and X for β about 0.6, and
 --                       tension of X for β about 0.9
 --     row_by_api r k    API's row for the kind k: K asks for the gap, compression of X for β about 0.6, and tension of X for β about 0.9

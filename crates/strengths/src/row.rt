@@ -27,6 +27,7 @@ pub struct Row {
 pub fn beta_row(bound: Bound, r: &BraceRecord) -> BetaRow
     ensures { result ≡ beta_row_by bound r.now }
 {
+    // One of two functions, as the editions have a comparison of its own for each bound.
     let above = match bound {
         Bound::SixTenths => beta_above_six_tenths(r),
         Bound::NineTenths => beta_above_nine_tenths(r),

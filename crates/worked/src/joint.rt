@@ -3,6 +3,8 @@ use records::limits::{BraceFigures, ChordFigures, Misfit, RatioFigures};
 use records::ratios::Ratios;
 use records::record::{BraceRecord, Chord};
 
+// The figures of the chord, the brace and the ratios in one struct, so that a row of the table says by `..FITS` only where it
+// differs, whichever of the three that is in.
 #[derive(Clone, Copy, Debug)]
 pub struct Joint {
     pub diameter: i64,

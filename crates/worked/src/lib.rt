@@ -187,9 +187,9 @@ mod tests {
 
     #[test]
     fn a_divisor_divides_and_refuses_outside_100_to_200(rt: HostRuntime) -> Result<(), Fail> {
-        let Ok(divisor) = Divisor::new(Iso2007 {}, 125) else {
-            return Err(Fail::new("125 hundredths are no divisor"));
-        };
+        let divisor = Divisor::new(Iso2007 {}, 125)
+            .ok()
+            .ok_or("125 hundredths are no divisor")?;
         assert!(rt; tells_closely(&divisor, short_can(320), Kind::YTension, 19200000));
         assert!(rt; tells_closely(&divisor, short_can(320), Kind::InPlane, 14400000));
         for c in [100, 200] {
@@ -198,9 +198,9 @@ mod tests {
         for c in [99, 201, i64::MIN] {
             assert!(rt; Divisor::new(Api {}, c).is_err(), "at {c}");
         }
-        let Err(refused) = Divisor::new(Api {}, 201) else {
-            return Err(Fail::new("201 hundredths are a divisor"));
-        };
+        let refused = Divisor::new(Api {}, 201)
+            .err()
+            .ok_or("201 hundredths are a divisor")?;
         assert_eq!(rt; (refused.fault.number(), refused.fault.field()), (7, 3));
         Ok(())
     }

@@ -18,12 +18,12 @@ returns-in_err-i c =
     passed _ (Added c.args.joint c.args.brace c.args.figures (holding c.args.self.now) (holding c.args.self.now)) (holding c.args.self.now) _ _ c.from_residual-in_err-i.ensures.1
     (add_nowhere c.args.joint c.args.brace c.args.figures (holding c.args.self.now) c.in_ok-n.n c.in_ok-n.number (search rules) (search rules) c.in_err-i.ensures.found.0 ∙ search rules)
 
-pub returns-then-len-ge96 : goal.returns-then-len-ge96
-returns-then-len-ge96 c =
+pub returns-then-len-ge-MOST_BRACES : goal.returns-then-len-ge-MOST_BRACES
+returns-then-len-ge-MOST_BRACES c =
     (add_full c.args.joint c.args.brace c.args.figures (holding c.args.self.now) c.in_ok-n.n c.in_ok-n.number (search rules) (search rules) c.in_ok-i.i c.in_ok-i.ensures.found (search rules), refl)
 
-pub returns-then-count_at-ge8 : goal.returns-then-count_at-ge8
-returns-then-count_at-ge8 c =
+pub returns-then-count_at-ge-MOST_BRACES_AT_JOINT : goal.returns-then-count_at-ge-MOST_BRACES_AT_JOINT
+returns-then-count_at-ge-MOST_BRACES_AT_JOINT c =
     (add_crowded c.args.joint c.args.brace c.args.figures (holding c.args.self.now) c.in_ok-n.n c.in_ok-n.number (search rules) (search rules) c.in_ok-i.i c.in_ok-i.ensures.found (search rules) (search rules), refl)
 
 pub returns-in_err-figures : goal.returns-in_err-figures
@@ -36,10 +36,10 @@ returns-in_err-figures c =
 pub returns : goal.returns
 returns c =
     let numbers : numbers_from c.args.joint c.args.brace ≡ Ok (c.in_ok-n.n, c.in_ok-n.number) = search rules in
-    let under = c.if-len-ge96.false in
+    let under = c.if-len-ge-MOST_BRACES.false in
     let counted = c.len.ensures in
     let long = c.args.self.now.braces.ok.0 in
-    let fewer = c.if-count_at-ge8.false in
+    let fewer = c.if-count_at-ge-MOST_BRACES_AT_JOINT.false in
     let found = c.count_at.ensures in
     let same = ap (λ x. x.chord) (c.index.ensures ∙ c.in_ok-i.ensures.found.here _) in
     let why = add_limits c.args.joint c.args.brace c.args.figures (holding c.args.self.now) c.in_ok-n.n c.in_ok-n.number numbers (search rules) c.in_ok-i.i c.in_ok-i.ensures.found (lt-leb _ _ (omega (arith, under, counted, long))) (lt-leb _ _ (omega (arith, fewer, found))) c.index.result.now.chord same in (
