@@ -48,7 +48,6 @@ fn tables_for<E: Edition>(heap: Global, edition: &E) -> Result<Tables, Obstacle>
     Ok(Tables::new(heap)?)
 }
 
-// A call takes the numbers of a joint and of a brace apart, as a card has them, each with a refusal of its own.
 impl<E: Edition> Book<E> {
     // An empty book, or the edition back. No later call on the book asks for memory.
     pub fn new(heap: Global, edition: E) -> Result<Book<E>, Unopened<E>>
@@ -67,6 +66,8 @@ impl<E: Edition> Book<E> {
         self.tables.enter(joint, figures)
     }
 
+    // The two numbers are parameters and no struct, here and below: enter and withdraw have the joint's alone, and a refusal names the
+    // one of the two that it is for.
     pub fn add(&mut self, joint: i64, brace: i64, figures: BraceFigures) -> Result<(), Refusal>
         ensures { Moves self.old self.new (λ l k. Adds joint brace figures l k result) }
     {
