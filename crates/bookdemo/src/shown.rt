@@ -36,11 +36,17 @@ impl fmt::Display for Asked {
     }
 }
 
-fn cause(part: Part) -> &'static str {
-    match part {
-        Part::AxialForce => "axial force",
-        Part::InPlaneMoment => "in-plane moment",
-        Part::OutOfPlaneMoment => "out-of-plane moment",
+// What makes a verdict FAR.
+#[derive(Clone, Copy)]
+struct Cause(Part);
+
+impl fmt::Display for Cause {
+    fn fmt<W: fmt::Write>(&self, f: &mut fmt::Formatter<W>) -> fmt::Result {
+        f.pad(match self.0 {
+            Part::AxialForce => "axial force",
+            Part::InPlaneMoment => "in-plane moment",
+            Part::OutOfPlaneMoment => "out-of-plane moment",
+        })
     }
 }
 
@@ -53,7 +59,7 @@ impl fmt::Display for Told {
             Verdict::Pass(ends) => ("PASS", ends),
             Verdict::Fail(ends) => ("FAIL", ends),
             Verdict::Near(ends) => ("NEAR", ends),
-            Verdict::Far(part) => return write!(f, "FAR, by the {}", cause(part)),
+            Verdict::Far(part) => return write!(f, "FAR, by the {}", Cause(part)),
         };
         write!(f, "{word}, {} to {} millionths", ends.low, ends.high)
     }

@@ -61,6 +61,7 @@ mod tests {
         }
     }
 
+    // A verdict by its word, to compare where the ends do not matter. A text and no `Display`: nothing is printed.
     fn word(verdict: Verdict) -> &'static str {
         match verdict {
             Verdict::Pass(_) => "PASS",

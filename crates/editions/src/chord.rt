@@ -31,15 +31,17 @@ impl Signs {
     }
 }
 
-fn signs(q: Ratios) -> Signs
-    ensures { Split q result }
-{
-    Signs {
-        tension: above(q.p),
-        compression: below(q.p),
-        closing: above(q.mi),
-        opening: below(q.mi),
-        side: above(q.mo) + below(q.mo),
+impl From<Ratios> for Signs {
+    ghost from_gives = { Split };
+
+    fn from(q: Ratios) -> Signs {
+        Signs {
+            tension: above(q.p),
+            compression: below(q.p),
+            closing: above(q.mi),
+            opening: below(q.mi),
+            side: above(q.mo) + below(q.mo),
+        }
     }
 }
 
@@ -88,7 +90,7 @@ impl Coefficients {
     fn chord_factor(self, q: Ratios) -> Option<Quotient>
         ensures { ChordTold (api_q_f (written self) q) result }
     {
-        let s = signs(q);
+        let s = Signs::from(q);
         let rise = self.rise * s.tension + self.fall * s.compression + self.close * s.opening;
         let fall = self.rise * s.compression + self.fall * s.tension + self.close * s.closing;
         let whole = 1000000000 * self.over;
@@ -148,7 +150,7 @@ impl Weights {
     fn chord_factor(self, q: Ratios) -> Option<Quotient>
         ensures { ChordTold (iso_q_f self q) result }
     {
-        let s = signs(q);
+        let s = Signs::from(q);
         let axial = self.axial as u64 * s.axial_square();
         let bending = self.bending as u64 * s.bending_square();
         let loss = self.w as u64 * (axial + bending);

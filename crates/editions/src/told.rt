@@ -5,7 +5,7 @@ ghost use Rattle.editions.specs.Meanings.{Millionths};
 use crate::strength::Strength;
 use powers::ends::{Ends, UNIT};
 
-// The lower end is rounded down and the upper one up.
+// The lower end is rounded down and the upper one up; so it is no `From`, which is for what keeps its value.
 pub fn millionths(z: Ends) -> Strength
     ensures { Millionths z result }
 {

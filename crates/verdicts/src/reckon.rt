@@ -18,7 +18,8 @@ const ONE: u64 = 1_000_000;
 
 const TEN: u64 = 10 * ONE;
 
-// The ends of a strength, if they are as close, by 700 parts in a million, and as far from 0 as a usable edition's.
+// The ends of a strength, if they are as close, by 700 parts in a million, and as far from 0 as a usable edition's. An Option and no
+// `TryFrom`: there is no error to tell.
 fn trusted(told: Strength) -> Option<Known>
     ensures { Trusts told result }
 {
@@ -148,7 +149,7 @@ fn ratio(load: u64, brace: &BraceRecord, by: Resistance) -> Ratio
     }
 }
 
-// The verdict that follows from the ends of the three ratios.
+// The verdict that follows from the ends of the three ratios. The three tests stand one by one, as the rule names the first of them.
 fn verdict_of(axial: Ratio, inner: Ratio, outer: Ratio) -> Verdict
     ensures { Follows axial inner outer result }
 {
