@@ -66,8 +66,8 @@ impl<E: Edition> Book<E> {
         self.tables.enter(joint, figures)
     }
 
-    // The two numbers are parameters and no struct, here and below: enter and withdraw have the joint's alone, and a refusal names the
-    // one of the two that it is for.
+    // The two numbers are parameters and no struct, here and below: enter and withdraw have the joint's alone, and a refusal
+    // names the one of the two that it is for.
     pub fn add(&mut self, joint: i64, brace: i64, figures: BraceFigures) -> Result<(), Refusal>
         ensures { Moves self.old self.new (λ l k. Adds joint brace figures l k result) }
     {

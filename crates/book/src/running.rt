@@ -11,8 +11,8 @@ use editions::edition::Edition;
 use ledger::refusal::Refusal;
 use std::alloc::{AllocError, Global};
 
-// The answers to the calls, in their order. Room for all of them is taken before the first call, so that a want of memory leaves the
-// book as it was.
+// The answers to the calls, in their order. Room for all of them is taken before the first call, so that a want of memory leaves
+// the book as it was.
 pub fn perform<E: Edition>(
     heap: Global,
     book: &mut Book<E>,

@@ -1,4 +1,5 @@
-// The book's calls on examples: causes in their order, full tables, checks that are voided, the worst brace, and editions of ours and of a stranger.
+// The book's calls on examples: causes in their order, full tables, checks that are voided, the worst brace, and editions of ours
+// and of a stranger.
 #![tactic(auto)]
 
 #[cfg(test)]

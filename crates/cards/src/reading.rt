@@ -15,7 +15,8 @@ use verdicts::forces::ForceFigures;
 
 impl Pieces<'_> {
     // The card of a word with the numbers of the fields behind it.
-    // They come as one array and not by a `?` in each field of the struct: that was tried, and the proof of eleven such steps does not close.
+    // They come as one array and not by a `?` in each field of the struct: that was tried, and the proof of eleven such steps
+    // does not close.
     fn card(&mut self, word: Word) -> Result<Card, CardFault>
         requires { seen self.old ≡ 1 }
         ensures { length (left self.old) + 1 ≡ fields_with_word word → result ≡ by_numbers word (numbers_in 2 (left self.old)) }

@@ -19,8 +19,8 @@ pub trait Edition {
     fn floor(&self) -> u64
         ensures { result ≡ (meaning self.now).floor };
 
-    // The ends of a strength, or none where the chord is spent. The record, the ratios and the kind are three parameters and not one
-    // struct: a record stands when a new force brings other ratios, and the kinds are asked one after the other.
+    // The ends of a strength, or none where the chord is spent. The record, the ratios and the kind are three parameters and not
+    // one struct: a record stands when a new force brings other ratios, and the kinds are asked one after the other.
     fn tell(&self, brace: &BraceRecord, ratios: Ratios, kind: Kind) -> Option<Strength>
         ensures { Tells (meaning self.now) brace.now ratios kind result };
 

@@ -25,6 +25,7 @@ fn gap_value(r: &BraceRecord) -> Ends
     ensures { Near result (gapped r.now) (milli 999) (milli 1800) 20 }
 {
     let g = above(r.gap);
+    // By `exact` and not `Ends::ONE`: its promise says how near it is to 1.
     let one = exact(Quotient { num: 1, den: 1 });
     if 81 * r.diameter < 100 * g {
         return one;

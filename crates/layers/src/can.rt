@@ -14,8 +14,8 @@ use records::kind::Kind;
 use records::ratios::Ratios;
 use records::record::BraceRecord;
 
-// An edition with the axial strengths of Y and X lessened where the can is short. No trait for both layers: an impl of `Edition` for
-// each type of it could not stand beside that for each code, and what they share are the width and the portion.
+// An edition with the axial strengths of Y and X lessened where the can is short. No trait for both layers: an impl of `Edition`
+// for each type of it could not stand beside that for each code, and what they share are the width and the portion.
 #[derive(Drop)]
 pub struct Can<E> {
     pub below: E,

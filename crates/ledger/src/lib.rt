@@ -1,4 +1,5 @@
-// The records of a book: which joints and braces stand, with which forces and checks. What a check answers is brought by the caller.
+// The records of a book: which joints and braces stand, with which forces and checks. What a check answers is brought by the
+// caller.
 #![tactic(auto)]
 
 pub mod calls;

@@ -13,7 +13,8 @@ pub(crate) const MOST_BRACES: usize = 96;
 // How many braces may stand at one joint.
 pub(crate) const MOST_BRACES_AT_JOINT: usize = 8;
 
-// No `impl Model`: a clause on two tables would then compare only what they hold, and the book's promise that a want of memory leaves it as it was would say less.
+// No `impl Model`: a clause on two tables would then compare only what they hold, and the book's promise that a want of memory
+// leaves it as it was would say less.
 #[derive(Drop)]
 pub struct Tables {
     pub(crate) joints: Vec<Joint>,

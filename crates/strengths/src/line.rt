@@ -70,11 +70,10 @@ impl<'a> Numbers<'a> {
 
     // The next number, or none where the line ends.
     fn number_if_any(&mut self) -> Result<Option<i64>, Fault> {
-        let Some((field, word)) = self.words.next() else {
-            return Ok(None);
-        };
-        let number = word.parse().map_err(|_| Fault::NotNumber(field))?;
-        Ok(Some(number))
+        self.words
+            .next()
+            .map(|(field, word)| word.parse().map_err(|_| Fault::NotNumber(field)))
+            .transpose()
     }
 
     // The next number of those that each line has.
@@ -93,8 +92,8 @@ struct Figures {
     can: i64,
 }
 
-// Where a line has no fourteenth number there is no divisor, and where it has no fifteenth no can. Strengths do not depend on the class
-// shares: all is taken as X.
+// Where a line has no fourteenth number there is no divisor, and where it has no fifteenth no can. Strengths do not depend on the
+// class shares: all is taken as X.
 fn read_figures(text: &str) -> Result<Figures, Fault> {
     let mut numbers = Numbers::of(text)?;
     let chord = ChordFigures {

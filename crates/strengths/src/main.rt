@@ -8,18 +8,14 @@ mod report;
 mod reported;
 mod row;
 
-fn run(rt: &HostRuntime) -> anyhow::Result<()> {
+fn main(rt: HostRuntime) -> anyhow::Result<()> {
     let heap = rt.alloc();
     let input = BufReader::new(heap, rt.stdin())?;
     for (number, bytes) in (1..=u64::MAX).zip(input.split(heap, b'\n')) {
         match line::read_joint(bytes?.as_slice()) {
-            Ok(joint) => report::print_joint(rt, number, &joint)?,
+            Ok(joint) => report::print_joint(&rt, number, &joint)?,
             Err(fault) => println!(rt; "line {number}: {fault}")?,
         }
     }
     Ok(())
-}
-
-fn main(rt: HostRuntime) -> anyhow::Result<()> {
-    run(&rt)
 }

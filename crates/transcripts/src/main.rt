@@ -4,16 +4,12 @@
 use decks::respond::respond;
 use std::{env, fs};
 
-fn show(rt: &HostRuntime) -> anyhow::Result<()> {
-    for name in env::args(rt)?.skip(1) {
-        let bytes = fs::read(rt, name.as_str())?;
+fn main(rt: HostRuntime) -> anyhow::Result<()> {
+    for name in env::args(&rt)?.skip(1) {
+        let bytes = fs::read(&rt, name.as_str())?;
         let text = respond(rt.alloc(), bytes.as_slice())?;
         println!(rt; "== {name}")?;
         print!(rt; "{text}")?;
     }
     Ok(())
-}
-
-fn main(rt: HostRuntime) -> anyhow::Result<()> {
-    show(&rt)
 }

@@ -25,7 +25,7 @@ use Rattle.verdicts.specs.Verdicts.{Tens, Worked}
 use Rattle.verdicts.specs.Steps.{Summed, Follows, Sound, Trusts, KnownOf, Knows, Knowing, Encloses, based}
 use Rattle.verdicts.proofs.Sizes.{told_near}
 use Rattle.verdicts.proofs.Resists.{ratio_low, ratio_high, average_le, average_ge, lever_le, lever_ge}
-use Rattle.verdicts.proofs.Sums.{sum_low, sum_high, sum_close, first_le, second_le, third_le, over_ten, over_one, square_over_one, under_one}
+use Rattle.verdicts.proofs.Sums.{sum_low, sum_high, sum_ordered, sum_close, first_le, second_le, third_le, over_ten, over_one, square_over_one, under_one}
 
 -- What an edition told, where it told a strength.
 pub told_of : (m : Meaning) (b : BraceRecord) (q : Ratios) (k : Kind) (o : Option Strength) (s : Strength) (x : Spent) → Tells m b q k o → Ok s ≡ ok_or o x → Enclosed m b q k s.low s.high
@@ -152,6 +152,7 @@ module _ (m : Meaning) (b : BraceRecord) (n : Force) (a i o : Ratio)
       cautious = λ f u. rw s.low (sum_low a.low i.low o.low (ratio b n AxialForce f) (ratio b n InPlaneMoment f) (ratio b n OutOfPlaneMoment f) (p.cautious f u) (q.cautious f u) (r.cautious f u));
       bold = λ f u. rw s.high (sum_high a.high i.high o.high (ratio b n AxialForce f) (ratio b n InPlaneMoment f) (ratio b n OutOfPlaneMoment f) (p.bold f u) (q.bold f u) (r.bold f u));
     };
+    ordered = rw (s.low, s.high) (sum_ordered a.low a.high i.low i.high o.low o.high a.ordered i.ordered o.ordered);
     close = rw (s.low, s.high) (sum_close a.low a.high i.low i.high o.low o.high a.near i.near o.near);
   }
 
@@ -193,9 +194,9 @@ module _ (m : Meaning) (b : BraceRecord) (n : Force) (a i o : Ratio)
     axial = ends_of a;
     inner = ends_of i;
     outer = ends_of o;
-    axially = record { between = p; close = ratio_close a };
-    innerly = record { between = q; close = ratio_close i };
-    outerly = record { between = r; close = ratio_close o };
+    axially = record { between = p; ordered = a.ordered; close = ratio_close a };
+    innerly = record { between = q; ordered = i.ordered; close = ratio_close i };
+    outerly = record { between = r; ordered = o.ordered; close = ratio_close o };
     tens = tens v s;
   }
 

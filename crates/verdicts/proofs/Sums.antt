@@ -30,6 +30,10 @@ pub sum_high : (a i o : ℕ) (f g h : Fraction) → f ≤ᶠ millionths a → g 
 sum_high a i o f g h p q r =
     le_trans (add_mono (le_trans (add_mono p (square_high i g q)) (join a (div_ceil (i * i) 1000000))) r) (join (a + div_ceil (i * i) 1000000) o)
 
+-- Where each ratio's ends are in order, so are those of the sum.
+pub sum_ordered : (a a' i i' o o' : ℕ) → a ≤ a' → i ≤ i' → o ≤ o' → a + i * i / 1000000 + o ≤ a' + div_ceil (i' * i') 1000000 + o'
+sum_ordered a a' i i' o o' p q r = let s : i * i ≤ i' * i' = mul-le-mul q q in omega (arith, s)
+
 -- Where each ratio's ends are close, so are those of the sum.
 pub sum_close : (a a' i i' o o' : ℕ) → a' * 1000000 ≤ a * 1000700 + 2000700 → i' * 1000000 ≤ i * 1000700 + 2000700 → o' * 1000000 ≤ o * 1000700 + 2000700
     → (a' + div_ceil (i' * i') 1000000 + o') * 400 ≤ (a + i * i / 1000000 + o) * 401 + 8000

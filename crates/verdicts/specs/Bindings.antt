@@ -38,6 +38,7 @@ pub record Between (m : Meaning) (b : BraceRecord) (n : Force) (found : Strength
 -- Ends of the utilisation.
 pub record Enclosing (m : Meaning) (b : BraceRecord) (n : Force) (e : Ends) : Type 0 where
   pub between : Between m b n (utilisation b n) e.low e.high
+  pub ordered : e.low ≤ e.high
   pub close : e.high * 400 ≤ e.low * 401 + 8000
 
 pub record Passing (m : Meaning) (b : BraceRecord) (n : Force) (e : Ends) : Type 0 where

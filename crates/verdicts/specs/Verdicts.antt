@@ -23,6 +23,7 @@ use Rattle.verdicts.specs.Bindings.{Between, Binds, FirstSpent, NoneSpent, Recko
 
 pub record RatioEnds (m : Meaning) (b : BraceRecord) (n : Force) (p : Part) (e : Ends) : Type 0 where
   pub between : Between m b n (ratio b n p) e.low e.high
+  pub ordered : e.low ≤ e.high
   pub close : e.high * 1000 ≤ e.low * 1001 + 5000
 
 abbrev pub NonePasses : Ends → Ends → Ends → Type 0

@@ -1,4 +1,5 @@
-// Ends that are known to be close. Three types and not one of two ends: each has its own unit, and its own bounds, which its values keep.
+// Ends that are known to be close. Three types and not one of two ends: each has its own unit, and its own bounds, which its
+// values keep.
 ghost use Rattle.std.specs.Prelude.{ℕ, ◌+◌, ◌*◌, ◌<◌, ◌≤◌};
 
 // A strength, in millionths.

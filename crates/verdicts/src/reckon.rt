@@ -1,4 +1,5 @@
-// Works out the verdict. The edition, the brace and its force are three parameters and not one struct: a clause names each alone, where it would read `self.now.edition.now`.
+// Works out the verdict. The edition, the brace and its force are three parameters and not one struct: a clause names each alone,
+// where it would read `self.now.edition.now`.
 ghost use Rattle.std.specs.Prelude.{◌≡◌, ℕ, ◌+◌, ◌*◌, ◌/◌, ◌<◌, ◌≤◌, true, cond, MatchResult};
 ghost use Rattle.verdicts.specs.Reckoners.{tension};
 ghost use Rattle.verdicts.specs.Bindings.{FirstSpent};
@@ -18,8 +19,8 @@ const ONE: u64 = 1_000_000;
 
 const TEN: u64 = 10 * ONE;
 
-// The ends of a strength, if they are as close, by 700 parts in a million, and as far from 0 as a usable edition's. An Option and no
-// `TryFrom`: there is no error to tell.
+// The ends of a strength, if they are as close, by 700 parts in a million, and as far from 0 as a usable edition's. An Option and
+// no `TryFrom`: there is no error to tell.
 fn trusted(told: Strength) -> Option<Known>
     ensures { Trusts told result }
 {
@@ -112,7 +113,8 @@ fn shared(shares: Shares, k: u64, y: u64, x: u64) -> u128
     shares.k as u128 * k as u128 + shares.y as u128 * y as u128 + shares.x as u128 * x as u128
 }
 
-// Two calls of `shared`, one for each end: a closure that picks an end of each strength would be longer than the call that it saves.
+// Two calls of `shared`, one for each end: a closure that picks an end of each strength would be longer than the call that it
+// saves.
 fn axial_resistance(brace: &BraceRecord, c: &Consulted) -> Resistance
     ensures low { result.low ≡ based brace.now (brace.now.shares.k * c.now.k.low + brace.now.shares.y * c.now.y.low + brace.now.shares.x * c.now.x.low) }
     ensures high { result.high ≡ based brace.now (brace.now.shares.k * c.now.k.high + brace.now.shares.y * c.now.y.high + brace.now.shares.x * c.now.x.high) }
@@ -149,7 +151,8 @@ fn ratio(load: u64, brace: &BraceRecord, by: Resistance) -> Ratio
     }
 }
 
-// The verdict that follows from the ends of the three ratios. The three tests stand one by one, as the rule names the first of them.
+// The verdict that follows from the ends of the three ratios. The three tests stand one by one, as the rule names the first of
+// them.
 fn verdict_of(axial: Ratio, inner: Ratio, outer: Ratio) -> Verdict
     ensures { Follows axial inner outer result }
 {
