@@ -2,8 +2,12 @@
 // and of a stranger.
 #![tactic(auto)]
 
+mod rated;
+mod rating;
+
 #[cfg(test)]
 mod tests {
+    use crate::rated::Rated;
     use book::book::Book;
     use book::opening::Obstacle;
     use editions::api::Api;
@@ -313,6 +317,26 @@ mod tests {
             .ok_or("opened by three layers")?;
         assert_eq!(rt; unusable(wide.why), Some((1, 1000)));
         Ok(())
+    }
+
+    // What keeps a book from being opened by an edition of this width and this floor, which is at most the tenth that it tells.
+    fn hindrance(heap: Global, width: u64, floor: u64) -> Option<(u8, u64)> {
+        if floor > 100_000 {
+            return None;
+        }
+        Book::new(heap, Rated { width, floor })
+            .err()
+            .and_then(|unopened| unusable(unopened.why))
+    }
+
+    #[test]
+    fn books_are_opened_up_to_a_width_of_700_and_down_to_a_floor_of_10000(rt: HostRuntime) {
+        assert_eq!(rt; hindrance(rt.alloc(), 700, 10_000), None);
+        assert_eq!(rt; hindrance(rt.alloc(), 701, 10_000), Some((1, 701)));
+        assert_eq!(rt; hindrance(rt.alloc(), 700, 9_999), Some((2, 9_999)));
+        assert_eq!(rt; hindrance(rt.alloc(), 701, 9_999), Some((1, 701)));
+        assert_eq!(rt; hindrance(rt.alloc(), u64::MAX, 0), Some((1, u64::MAX)));
+        assert_eq!(rt; hindrance(rt.alloc(), 0, 0), Some((2, 0)));
     }
 
     #[test]
