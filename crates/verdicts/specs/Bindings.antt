@@ -3,7 +3,8 @@
 --     Cautious m b n f       f has no strength in use that is above the edition's
 --     Bold m b n f           f has no strength in use that is below the edition's
 --     Between m b n found low high    what a cautious reckoner finds is at least low millionths, and what a bold one finds at most high
---     Enclosing m b n e      the ends e lie so about the utilisation, and are at most a 400th of the lower and 20 millionths apart
+--     Enclosing m b n e      the ends e lie so about the utilisation, in their order, and are at most a 400th of the lower and 20
+--                            millionths apart
 --     Passing, Failing, Nearing, Faring, Binds    what each verdict says
 --     FirstSpent m b n k     k is the first kind in use for which the chord is spent
 --     NoneSpent m b n        there is none

@@ -1,6 +1,7 @@
 -- What a check answers.
 --
---     RatioEnds m b n p e    the ends e lie about the ratio of the part p, and are at most a thousandth of the lower and 5 millionths apart
+--     RatioEnds m b n p e    the ends e lie about the ratio of the part p, in their order, and are at most a thousandth of the lower and
+--                            5 millionths apart
 --     NonePasses a i o       no lower end passes ten
 --     Tens a i o v           v is FAR exactly when some lower end passes ten, and names the first such part
 --     Worked m b n v         there are such ends for the three ratios, and v is FAR exactly by them

@@ -47,7 +47,7 @@ pub const FITS: Joint = Joint {
 
 impl Joint {
     // The records that the figures make, or what is wrong with them.
-    pub fn records(self) -> Result<(BraceRecord, Ratios), Misfit> {
+    pub(crate) fn records(self) -> Result<(BraceRecord, Ratios), Misfit> {
         let chord = Chord::new(ChordFigures {
             diameter: self.diameter,
             wall: self.wall,
