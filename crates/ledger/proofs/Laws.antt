@@ -4,7 +4,7 @@ use Rattle.std.specs.Option.{ok_or}
 use Rattle.std.specs.List.{AllByRecursion}
 use Rattle.ledger.specs.declared.entries.Brace.{Brace}
 use Rattle.ledger.specs.Causes.{Cause, because}
-use Rattle.ledger.specs.Ledger.{find, Ledger, amend, number_from, numbers_at, is_joint, is_brace, standing, standing_at}
+use Rattle.ledger.specs.Ledger.{find, Ledger, amend, number_from, is_joint, is_brace, standing, standing_at}
 
 of_ok : {X : Type 0} (o : Option X) (c : Cause) (x : X) → ok_or o c ≡ Ok x → o ≡ Some x
 of_ok None c x e = let z : ◌≡◌ {A = ℕ} 0 1 = cc in absurd (omega arith)
@@ -19,7 +19,7 @@ pub standing_found : (j b : ℤ) (l : Ledger) (n m : ℕ) (held : Brace) → num
 unfolding standing
 standing_found j b l n m held joint brace e =
     found_if (is_some (find (is_joint n) l.joints)) _ (because 5 (pos 3)) (because 5 (pos 2)) held
-    (sym (ap (λ o. standing_at (numbers_at o (number_from b)) l) joint ∙ ap (λ o. standing_at (numbers_at (Some n) o) l) brace) ∙ e)
+    (sym (ap (λ o. standing_at o (number_from b) l) joint ∙ ap (λ o. standing_at (Some n) o l) brace) ∙ e)
 
 -- What holds of each, and of the one that is changed, holds of each after.
 pub all_amend : {X : Type 0} (P : X → Type 0) (p : X → Bool) (f : X → X) (xs : List X) → ((x : X) → find p xs ≡ Some x → P (f x)) → AllByRecursion P xs → AllByRecursion P (amend p f xs)

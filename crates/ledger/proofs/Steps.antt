@@ -8,8 +8,8 @@ use Rattle.records.specs.declared.limits.ChordFigures.{ChordFigures}
 use Rattle.records.specs.declared.limits.BraceFigures.{BraceFigures}
 use Rattle.records.specs.declared.record.Chord.{Chord}
 use Rattle.ledger.specs.declared.refusal.Refusal.{Refusal}
-use Rattle.ledger.specs.declared.refusal.Refusal.TheVariants.{Unknown}
-use Rattle.ledger.specs.declared.refusal.Place.TheVariants.{Brace as PlaceOfBrace}
+use Rattle.ledger.specs.declared.refusal.Refusal.TheVariants.{NumberOutside, Unknown}
+use Rattle.ledger.specs.declared.refusal.Place.TheVariants.{Joint as PlaceOfJoint, Brace as PlaceOfBrace}
 use Rattle.verdicts.specs.Forces.{force_limits}
 use Rattle.verdicts.specs.declared.forces.ForceFigures.{ForceFigures}
 use Rattle.ledger.specs.declared.entries.Brace.{Brace}
@@ -26,15 +26,33 @@ module _ (j : ℤ) (f : ChordFigures) (l : Ledger) (n : ℕ) (number : number_fr
   pub enter_limits : enter_cause j f l ≡ figure_cause (first_figure_outside (chord_limits f))
   enter_limits = ap (λ o. enter_at o f l) number ∙ cond-false _ _ _ free ∙ cond-false _ _ _ room
 
+-- Two numbers that are both within their limits.
+pub numbered : (j b : ℤ) (n m : ℕ) → numbers_from j b ≡ Ok (n, m) → (number_from j ≡ Some n) × (number_from b ≡ Some m)
+numbered j b n m e = go (number_from j) (number_from b) e
+  where
+    go : (x y : Option ℕ) → numbers_at x y ≡ Ok (n, m) → (x ≡ Some n) × (y ≡ Some m)
+    go None y e = cc
+    go (Some x) None e = cc
+    go (Some x) (Some y) e = let same : (x, y) ≡ (n, m) = cc in (ap (λ (t : ℕ × ℕ). Some t.0) same, ap (λ (t : ℕ × ℕ). Some t.1) same)
+
 pub add_outside : (j b : ℤ) (f : BraceFigures) (l : Ledger) (e : Refusal) → numbers_from j b ≡ Err e → add_cause j b f l ≡ Some (cause e)
-add_outside j b f l e h = ap (λ r. add_at r f l) h
+add_outside j b f l e h = go (number_from j) (number_from b) h
+  where
+    go : (x y : Option ℕ) → numbers_at x y ≡ Err e → add_at x y f l ≡ Some (cause e)
+    go None y h = let same : NumberOutside PlaceOfJoint ≡ e = cc in ap (λ z. Some (cause z)) same
+    go (Some x) None h = let same : NumberOutside PlaceOfBrace ≡ e = cc in ap (λ z. Some (cause z)) same
+    go (Some x) (Some y) h = cc
+
+-- The numbers of a brace, both within their limits, in its table of causes.
+add_told : (j b : ℤ) (f : BraceFigures) (l : Ledger) (n m : ℕ) → numbers_from j b ≡ Ok (n, m) → add_cause j b f l ≡ add_at (Some n) (Some m) f l
+add_told j b f l n m h = ap (λ o. add_at o (number_from b) f l) (numbered j b n m h).0 ∙ ap (λ o. add_at (Some n) o f l) (numbered j b n m h).1
 
 pub add_taken : (j b : ℤ) (f : BraceFigures) (l : Ledger) (n m : ℕ) → numbers_from j b ≡ Ok (n, m) → is_some (find (is_brace n m) l.braces) ≡ true → add_cause j b f l ≡ Some (because 4 (pos 3))
-add_taken j b f l n m h t = ap (λ r. add_at r f l) h ∙ cond-true _ _ _ t
+add_taken j b f l n m h t = add_told j b f l n m h ∙ cond-true _ _ _ t
 
 module _ (j b : ℤ) (f : BraceFigures) (l : Ledger) (n m : ℕ) (numbers : numbers_from j b ≡ Ok (n, m)) (free : is_some (find (is_brace n m) l.braces) ≡ false) where
   add_past : add_cause j b f l ≡ first_cause ((not (is_some (find (is_joint n) l.joints)), because 5 (pos 2)) ∷ (leb 96 (length l.braces), because 6 (pos 96)) ∷ (leb 8 (count_by (at_joint n) l.braces), because 6 (pos 8)) ∷ []) (brace_cause (find (is_joint n) l.joints) f)
-  add_past = ap (λ r. add_at r f l) numbers ∙ cond-false _ _ _ free
+  add_past = add_told j b f l n m numbers ∙ cond-false _ _ _ free
 
   pub add_nowhere : find (is_joint n) l.joints ≡ None → add_cause j b f l ≡ Some (because 5 (pos 2))
   add_nowhere none = add_past ∙ cond-true _ _ _ (ap (λ o. not (is_some o)) none)
@@ -52,14 +70,19 @@ module _ (j b : ℤ) (f : BraceFigures) (l : Ledger) (n m : ℕ) (numbers : numb
     pub add_limits : leb 96 (length l.braces) ≡ false → leb 8 (count_by (at_joint n) l.braces) ≡ false → (c : Chord) → c ≡ there.held.chord → add_cause j b f l ≡ misfit_cause (brace_fault c f)
     add_limits h k c e = add_here ∙ cond-false _ _ _ h ∙ cond-false _ _ _ k ∙ ap (λ o. brace_cause o f) there.there ∙ ap (λ z. misfit_cause (brace_fault z f)) (sym e)
 
--- Two numbers that are both within their limits.
-pub numbered : (j b : ℤ) (n m : ℕ) → numbers_from j b ≡ Ok (n, m) → (number_from j ≡ Some n) × (number_from b ≡ Some m)
-numbered j b n m e = go (number_from j) (number_from b) e
+-- Where one of the numbers is none, no brace stands.
+pub standing_outside : (j b : ℤ) (l : Ledger) (e : Refusal) → numbers_from j b ≡ Err e → Stood j b l (Err e)
+unfolding standing
+standing_outside j b l e h = go (number_from j) (number_from b) h
   where
-    go : (x y : Option ℕ) → numbers_at x y ≡ Ok (n, m) → (x ≡ Some n) × (y ≡ Some m)
-    go None y e = cc
-    go (Some x) None e = cc
-    go (Some x) (Some y) e = let same : (x, y) ≡ (n, m) = cc in (ap (λ (t : ℕ × ℕ). Some t.0) same, ap (λ (t : ℕ × ℕ). Some t.1) same)
+    go : (x y : Option ℕ) → numbers_at x y ≡ Err e → standing_at x y l ≡ Err (cause e)
+    go None y h = let same : NumberOutside PlaceOfJoint ≡ e = cc in ap (λ z. Err (cause z)) same
+    go (Some x) None h = let same : NumberOutside PlaceOfBrace ≡ e = cc in ap (λ z. Err (cause z)) same
+    go (Some x) (Some y) h = cc
+
+standing_told : (j b : ℤ) (l : Ledger) (n m : ℕ) → numbers_from j b ≡ Ok (n, m) → standing j b l ≡ standing_at (Some n) (Some m) l
+unfolding standing
+standing_told j b l n m h = ap (λ o. standing_at o (number_from b) l) (numbered j b n m h).0 ∙ ap (λ o. standing_at (Some n) o l) (numbered j b n m h).1
 
 -- The place of the brace of these numbers, at a joint that stands.
 pub stood : (j b : ℤ) (l : Ledger) (n m : ℕ) (r : Result ℕ Refusal) → numbers_from j b ≡ Ok (n, m) → is_some (find (is_joint n) l.joints) ≡ true → Spotted (is_brace n m) l.braces (Unknown PlaceOfBrace) r → Stood j b l r
@@ -70,10 +93,10 @@ stood j b l n m (Ok i) numbers there found = record {
   joint_numbered = (numbered j b n m numbers).0;
   numbered = (numbered j b n m numbers).1;
   found = found;
-  stands = ap (λ r. standing_at r l) numbers ∙ cond-true _ _ _ there ∙ ap (λ o. ok_or o (because 5 (pos 3))) found.there;
+  stands = standing_told j b l n m numbers ∙ cond-true _ _ _ there ∙ ap (λ o. ok_or o (because 5 (pos 3))) found.there;
 }
 stood j b l n m (Err e) numbers there (none, same) =
-    ap (λ r. standing_at r l) numbers ∙ cond-true _ _ _ there ∙ ap (λ o. ok_or o (because 5 (pos 3))) none ∙ ap (λ x. Err (cause x)) (sym same)
+    standing_told j b l n m numbers ∙ cond-true _ _ _ there ∙ ap (λ o. ok_or o (because 5 (pos 3))) none ∙ ap (λ x. Err (cause x)) (sym same)
 
 -- The same of numbers that a call passed on as they came.
 pub stood_at : (j b : ℤ) (l : Ledger) (i : ℕ) → SFits w64 j → SFits w64 b → At (to_z w64 (of_z w64 j)) (to_z w64 (of_z w64 b)) l i → At j b l i

@@ -140,9 +140,10 @@ abbrev pub brace_cause : Option Joint → BraceFigures → Option Cause
 brace_cause None f = None
 brace_cause (Some j) f = misfit_cause (brace_fault j.chord f)
 
-abbrev pub add_at : Result (ℕ × ℕ) Refusal → BraceFigures → Ledger → Option Cause
-add_at (Err e) f l = Some (cause e)
-add_at (Ok (n, m)) f l =
+abbrev pub add_at : Option ℕ → Option ℕ → BraceFigures → Ledger → Option Cause
+add_at None m f l = Some (because 3 (pos 2))
+add_at (Some n) None f l = Some (because 3 (pos 3))
+add_at (Some n) (Some m) f l =
     first_cause (
     (is_some (find (is_brace n m) l.braces), because 4 (pos 3)) ∷
     (not (is_some (find (is_joint n) l.joints)), because 5 (pos 2)) ∷
@@ -151,7 +152,7 @@ add_at (Ok (n, m)) f l =
     (brace_cause (find (is_joint n) l.joints) f)
 
 abbrev pub add_cause : ℤ → ℤ → BraceFigures → Ledger → Option Cause
-add_cause j b f l = add_at (numbers_from j b) f l
+add_cause j b f l = add_at (number_from j) (number_from b) f l
 
 -- The brace stands last, at the chord of its joint, with no force and no check.
 pub record Added (j b : ℤ) (f : BraceFigures) (l m : Ledger) : Type 0 where
@@ -170,13 +171,14 @@ abbrev pub Adds : ℤ → ℤ → BraceFigures → Ledger → Ledger → Result 
 Adds j b f l m r = Does (add_cause j b f l) (Added j b f l m) l m r
 
 -- ---- a brace that a call speaks of
-abbrev pub standing_at : Result (ℕ × ℕ) Refusal → Ledger → Result Brace Cause
-standing_at (Err e) l = Err (cause e)
-standing_at (Ok (n, m)) l =
+abbrev pub standing_at : Option ℕ → Option ℕ → Ledger → Result Brace Cause
+standing_at None m l = Err (because 3 (pos 2))
+standing_at (Some n) None l = Err (because 3 (pos 3))
+standing_at (Some n) (Some m) l =
     cond (is_some (find (is_joint n) l.joints)) (ok_or (find (is_brace n m) l.braces) (because 5 (pos 3))) (Err (because 5 (pos 2)))
 
 unfoldable pub standing : ℤ → ℤ → Ledger → Result Brace Cause
-standing j b l = standing_at (numbers_from j b) l
+standing j b l = standing_at (number_from j) (number_from b) l
 
 -- Only the first brace with these numbers is changed.
 pub record Amended (j b : ℤ) (f : Brace → Brace) (l m : Ledger) : Type 0 where
