@@ -3,7 +3,7 @@ use Rattle.std.proofs.Common.{◌≡◌, ℕ, zero, suc, ◌+◌, ◌-◌, ◌<�
 use Rattle.std.proofs.str.Laws.{order}
 use Rattle.std.proofs.lemmas.List.{take_all, drop-drop, length-take-le}
 use Rattle.std.proofs.lemmas.Bool.{cond-true, cond-false, cond_both, le-leb, lt-leb}
-use Rattle.cards.specs.Pieces.{onto, pieces, ending, fields_of}
+use Rattle.cards.specs.Pieces.{onto, pieces, ending, pieces_from, fields_of}
 
 -- no mark stands below n
 abbrev pub Clear : ℕ → List ℕ → ℕ → Type 0
@@ -35,10 +35,6 @@ unended mark (b ∷ c ∷ bs) l clr =
 pub front_again : (rest : List ℕ) (n : ℕ) → n ≤ length rest → take n rest ≡ take (length (take n rest)) rest
 front_again rest n h = ap (λ (k : ℕ). take k rest) (sym (length-take-le n rest h))
 
--- one piece: what is left from `at` on, where nothing is left past the end
-abbrev pub pieces_from : ℕ → Bool → List ℕ → ℕ → List (List ℕ)
-pieces_from mark end all at = cond (leb at (length all)) (pieces mark (ending end) (drop at all)) []
-
 -- what is left has no mark
 unmarked : (mark : ℕ) (end : Bool) (bs : List ℕ) → (length bs ≡ 0 → end ≡ true) → Clear mark bs (length bs) → pieces mark (ending end) bs ≡ bs ∷ []
 unmarked mark true bs some clr = uncut mark bs clr
@@ -61,13 +57,21 @@ piece_step mark end all at n rest is here some in_rest clr found =
     begin ∙ unmarked mark end rest some (subst (Clear mark rest) (sym full) clr) ∙ (λ i. sym (take_all n rest ge) i ∷ sym none i))
     (order n (length rest))
 
--- a line has at most one field more than bytes
+-- there is at most one piece more than bytes
 onto_few : (b : ℕ) (ps : List (List ℕ)) → length (onto b ps) ≤ length ps + 1
 onto_few b [] = omega arith
 onto_few b (p ∷ ps) = omega arith
 
+few : (mark : ℕ) (end : Bool) (bs : List ℕ) → length (pieces mark (ending end) bs) ≤ length bs + 1
+few mark true [] = omega arith
+few mark false [] = omega arith
+few mark end (b ∷ bs) =
+    let more = few mark end bs in
+    cond_both (eqb b mark) ([] ∷ pieces mark (ending end) bs) (onto b (pieces mark (ending end) bs)) (λ ps. length ps ≤ length (b ∷ bs) + 1) (λ _. omega (arith, more)) (λ _. omega (arith, more, onto_few b (pieces mark (ending end) bs)))
+
+pub few_from : (mark : ℕ) (end : Bool) (all : List ℕ) (at : ℕ) → length (pieces_from mark end all at) ≤ length all + 1
+few_from mark end all at =
+    cond_both (leb at (length all)) (pieces mark (ending end) (drop at all)) [] (λ ps. length ps ≤ length all + 1) (λ _. omega (arith, few mark end (drop at all), length-drop at all)) (λ _. omega arith)
+
 pub fields_few : (bs : List ℕ) → length (fields_of bs) ≤ length bs + 1
-fields_few [] = omega arith
-fields_few (b ∷ bs) =
-    let few = fields_few bs in
-    cond_both (eqb b 44) ([] ∷ fields_of bs) (onto b (fields_of bs)) (λ ps. length ps ≤ length (b ∷ bs) + 1) (λ _. omega arith) (λ _. omega (arith, onto_few b (fields_of bs)))
+fields_few bs = few 44 true bs

@@ -8,7 +8,8 @@ use crate::card::NumberFault;
 use crate::numbers::number;
 
 impl Pieces<'_> {
-    // The number of the next field. Where no field is left there is none.
+    // The number of the next field. Where no field is left there is none. Inlined, as most of a deck's time goes into numbers.
+    #[inline(always)]
     fn number(&mut self) -> Result<i64, NumberFault>
         requires few { seen self.old < 255 }
         ensures count { OnOk result (seen self.new ≡ seen self.old + 1) }

@@ -1,7 +1,7 @@
 // Hands out one piece after the other.
-ghost use Rattle.std.specs.Prelude.{◌≡◌, ℕ, ◌<◌, ◌≤◌, length, ◌≢◌, slice_index};
+ghost use Rattle.std.specs.Prelude.{◌≡◌, ℕ, ◌<◌, ◌≤◌, true, false, length, ◌≢◌, slice_index};
 ghost use Rattle.std.specs.Iterator.{at_most};
-ghost use Rattle.cards.specs.Pieces.{pieces, ending, lines_of, fields_of};
+ghost use Rattle.cards.specs.Pieces.{pieces_from, lines_of, fields_of};
 ghost use Rattle.cards.specs.Readers.{Begins, left, Steps};
 
 use super::Pieces;
@@ -19,20 +19,20 @@ pub fn until(bytes: &[u8], mark: u8) -> usize
 impl<'a> Pieces<'a> {
     // The lines of an input: a byte 10 ends each.
     pub fn lines(input: &'a [u8]) -> Pieces<'a>
-        ensures { Begins result input.now (lines_of input.now) }
+        ensures { Begins result 10 false input.now (lines_of input.now) }
     {
         Pieces::parted(input, b'\n', false)
     }
 
     // The fields of a line: a comma parts them.
     pub fn fields(line: &'a [u8]) -> Pieces<'a>
-        ensures { Begins result line.now (fields_of line.now) }
+        ensures { Begins result 44 true line.now (fields_of line.now) }
     {
         Pieces::parted(line, b',', true)
     }
 
     fn parted(bytes: &'a [u8], mark: u8, last: bool) -> Pieces<'a>
-        ensures { Begins result bytes.now (pieces mark (ending last) bytes.now) }
+        ensures { Begins result mark last bytes.now (pieces_from mark last bytes.now 0) }
     {
         Pieces {
             bytes,
@@ -51,6 +51,7 @@ impl<'a> Iterator for Pieces<'a> {
 
     ghost remaining = { λ c. at_most (length (left c)) };
 
+    #[tactic(auto, using(crate::proofs::Cuts::few_from))]
     fn next(&mut self) -> Option<Piece<'a>> {
         let rest = self.bytes.get(self.at..)?;
         if rest.is_empty() && !self.last {
@@ -70,7 +71,6 @@ impl<'a> Iterator for Pieces<'a> {
 }
 
 // How many fields a line has.
-#[tactic(auto, using(crate::proofs::Counting::pieces_count, crate::proofs::Cuts::fields_few))]
 pub fn count_fields(line: &[u8]) -> usize
     ensures { result ≡ length (fields_of line.now) }
 {

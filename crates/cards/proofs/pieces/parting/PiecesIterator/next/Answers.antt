@@ -1,6 +1,8 @@
-use Rattle.std.proofs.Common.{◌≡◌, ℕ, ◌+◌, true, List, ◌∷◌, length, take, drop, refl, ap, ◌∙◌, arith, rules}
+use Rattle.std.proofs.Common.{◌≡◌, ℕ, ◌+◌, Bool, true, false, List, ◌∷◌, length, take, drop, sym, refl, ap, ◌∙◌, ⊎_elim, length-drop, arith, rules}
+use Rattle.std.proofs.str.Laws.{order}
 use Rattle.std.proofs.lemmas.List.{length-take-le, take_rest}
-use Rattle.cards.proofs.Cuts.{pieces_from, piece_step, front_again}
+use Rattle.cards.specs.Pieces.{pieces_from}
+use Rattle.cards.proofs.Cuts.{piece_step, front_again}
 use Rattle.cards.proofs.pieces.parting.PiecesIterator.next.Goals as goal
 use Rattle.cards.proofs.pieces.parting.PiecesIterator.next.Goals.{else-is_empty-via-then-is_empty+else-not-self, else-is_empty-via-else-is_empty}
 
@@ -24,6 +26,11 @@ returns c =
         count = refl;
         same = refl;
         behind = omega (arith, length-take-le n rest told.within);
+        alike = (refl, refl);
+        shorter = λ e. ⊎_elim
+            (λ lt. omega (arith, lt, ap length is, length-drop reader.at all, length-drop (reader.at + (n + 1)) all))
+            (λ ge. let no : ◌≡◌ {A = Bool} true false = sym (some (omega (arith, ge))) ∙ e in cc)
+            (order 0 (length rest));
       };
       goes = record { on = λ _. (tt, tt, omega (arith, ap length first)); keeps = tt; rests = λ _. tt };
     }
