@@ -8,8 +8,7 @@ use records::limits::{BraceFigures, ChordFigures, Figure, Misfit, RatioFigures};
 use records::ratios::Ratios;
 use records::record::{BraceRecord, Chord};
 use std::fmt;
-use std::iter::Zip;
-use std::ops::RangeInclusive;
+use std::iter::Fuse;
 use std::str::SplitWhitespace;
 
 #[derive(Drop)]
@@ -50,35 +49,25 @@ impl From<PileFault> for Fault {
     }
 }
 
-// The words of a line, each with its field, taken one after another as whole numbers.
+// The words of a line, taken one after another as whole numbers; none where a word is no such number. Fused, so that the blanks
+// behind the last word are gone over once.
 #[derive(Drop)]
 struct Numbers<'a> {
-    count: usize,
-    words: Zip<RangeInclusive<usize>, SplitWhitespace<'a>>,
+    words: Fuse<SplitWhitespace<'a>>,
 }
 
-impl<'a> Numbers<'a> {
-    // A line of too few or too many numbers is told by their count, whatever else is wrong with it.
-    fn of(text: &'a str) -> Result<Numbers<'a>, Fault> {
-        let count = text.split_whitespace().count();
-        if !(13..=15).contains(&count) {
-            return Err(Fault::Count(count));
-        }
-        let words = (1..=count).zip(text.split_whitespace());
-        Ok(Numbers { count, words })
-    }
-
-    // The next number, or none where the line ends.
-    fn number_if_any(&mut self) -> Result<Option<i64>, Fault> {
-        self.words
-            .next()
-            .map(|(field, word)| word.parse().map_err(|_| Fault::NotNumber(field)))
-            .transpose()
-    }
-
+impl Numbers<'_> {
     // The next number of those that each line has.
-    fn number(&mut self) -> Result<i64, Fault> {
-        self.number_if_any()?.ok_or(Fault::Count(self.count))
+    fn number(&mut self) -> Option<i64> {
+        self.words.next()?.parse().ok()
+    }
+
+    // The next number, or `missing` where the line ends.
+    fn number_or(&mut self, missing: i64) -> Option<i64> {
+        match self.words.next() {
+            Some(word) => word.parse().ok(),
+            None => Some(missing),
+        }
     }
 }
 
@@ -92,10 +81,12 @@ struct Figures {
     can: i64,
 }
 
-// Where a line has no fourteenth number there is no divisor, and where it has no fifteenth no can. Strengths do not depend on the
-// class shares: all is taken as X.
-fn read_figures(text: &str) -> Result<Figures, Fault> {
-    let mut numbers = Numbers::of(text)?;
+// The figures of a line of 13 to 15 whole numbers, which is gone over once; else none. Where a line has no fourteenth number there is
+// no divisor, and where it has no fifteenth no can. Strengths do not depend on the class shares: all is taken as X.
+fn figures_of(text: &str) -> Option<Figures> {
+    let mut numbers = Numbers {
+        words: text.split_whitespace().fuse(),
+    };
     let chord = ChordFigures {
         diameter: numbers.number()?,
         wall: numbers.number()?,
@@ -118,15 +109,39 @@ fn read_figures(text: &str) -> Result<Figures, Fault> {
         mi: numbers.number()?,
         mo: numbers.number()?,
     };
-    let c = numbers.number_if_any()?.unwrap_or(100);
-    let can = numbers.number_if_any()?.unwrap_or(0);
-    Ok(Figures {
-        chord,
-        brace,
-        ratios,
-        c,
-        can,
-    })
+    let c = numbers.number_or(100)?;
+    let can = numbers.number_or(0)?;
+    match numbers.words.next() {
+        Some(_) => None,
+        None => Some(Figures {
+            chord,
+            brace,
+            ratios,
+            c,
+            can,
+        }),
+    }
+}
+
+// What is wrong with a line that has no figures: too few or too many words, told by their count whatever else is wrong with it, or
+// else the first word that is no whole number.
+fn fault_of(text: &str) -> Fault {
+    let mut count = 0;
+    let mut first_bad = None;
+    for (field, word) in (1..=usize::MAX).zip(text.split_whitespace()) {
+        count = field;
+        if field <= 15 && first_bad.is_none() && word.parse::<i64>().is_err() {
+            first_bad = Some(field);
+        }
+    }
+    match (count, first_bad) {
+        (13..=15, Some(field)) => Fault::NotNumber(field),
+        _ => Fault::Count(count),
+    }
+}
+
+fn read_figures(text: &str) -> Result<Figures, Fault> {
+    figures_of(text).ok_or_else(|| fault_of(text))
 }
 
 fn described(figures: Figures) -> Result<Joint, Fault>
