@@ -3,7 +3,7 @@ use Rattle.std.proofs.Common.{◌≡◌, ℕ, zero, suc, ◌+◌, ◌-◌, ◌<�
 use Rattle.std.proofs.str.Laws.{order}
 use Rattle.std.proofs.lemmas.List.{take_all, drop-drop, length-take-le}
 use Rattle.std.proofs.lemmas.Bool.{cond-true, cond-false, cond_both, le-leb, lt-leb}
-use Rattle.cards.specs.Pieces.{onto, pieces, ending, pieces_from, fields_of}
+use Rattle.cards.specs.Pieces.{onto, pieces, ending, pieces_from}
 
 -- no mark stands below n
 abbrev pub Clear : ℕ → List ℕ → ℕ → Type 0
@@ -62,7 +62,7 @@ onto_few : (b : ℕ) (ps : List (List ℕ)) → length (onto b ps) ≤ length ps
 onto_few b [] = omega arith
 onto_few b (p ∷ ps) = omega arith
 
-few : (mark : ℕ) (end : Bool) (bs : List ℕ) → length (pieces mark (ending end) bs) ≤ length bs + 1
+pub few : (mark : ℕ) (end : Bool) (bs : List ℕ) → length (pieces mark (ending end) bs) ≤ length bs + 1
 few mark true [] = omega arith
 few mark false [] = omega arith
 few mark end (b ∷ bs) =
@@ -72,6 +72,3 @@ few mark end (b ∷ bs) =
 pub few_from : (mark : ℕ) (end : Bool) (all : List ℕ) (at : ℕ) → length (pieces_from mark end all at) ≤ length all + 1
 few_from mark end all at =
     cond_both (leb at (length all)) (pieces mark (ending end) (drop at all)) [] (λ ps. length ps ≤ length all + 1) (λ _. omega (arith, few mark end (drop at all), length-drop at all)) (λ _. omega arith)
-
-pub fields_few : (bs : List ℕ) → length (fields_of bs) ≤ length bs + 1
-fields_few bs = few 44 true bs

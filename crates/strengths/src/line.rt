@@ -124,7 +124,7 @@ fn figures_of(text: &str) -> Option<Figures> {
 }
 
 // What is wrong with a line that has no figures: too few or too many words, told by their count whatever else is wrong with it, or
-// else the first word that is no whole number.
+// else the first word that is no whole number. Words behind the fifteenth are counted and not read.
 fn fault_of(text: &str) -> Fault {
     let mut count = 0;
     let mut first_bad = None;

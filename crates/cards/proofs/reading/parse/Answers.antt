@@ -1,8 +1,8 @@
-use Rattle.std.proofs.Common.{◌≡◌, ◌∷◌, length, sym, ap, ◌∙◌, arith}
+use Rattle.std.proofs.Common.{◌≡◌, ◌+◌, ◌≤◌, true, ◌∷◌, length, sym, ap, ◌∙◌, arith}
 use Rattle.cards.specs.Pieces.{fields_of}
 use Rattle.cards.specs.Words.{count}
 use Rattle.cards.specs.Readers.{left}
-use Rattle.cards.proofs.Cuts.{fields_few}
+use Rattle.cards.proofs.Cuts.{few}
 use Rattle.cards.proofs.Shapes.{too_long, no_field, no_word, wrong_count, numbered}
 use Rattle.cards.proofs.reading.parse.Goals as goal
 
@@ -17,7 +17,9 @@ returns-in_default-placed_word c =
     no_word c.args.ready c.args.line.now c.in-Some.first.bytes.now (left c.next.new.self) c.if-line-gt120.false (sym c.fields-fields.ensures.1 ∙ c.in-Some.ensures.steps.first) (sym c.in_default-placed_word.ensures)
 
 pub overflow_cast-result : goal.overflow_cast-result
-overflow_cast-result c = omega (arith, fields_few c.args.line.now, c.count_fields-count.ensures)
+overflow_cast-result c =
+    let at_most : length (fields_of c.args.line.now) ≤ length c.args.line.now + 1 = few 44 true c.args.line.now in
+    omega (arith, at_most, c.count_fields-count.ensures)
 
 pub returns-then-count : goal.returns-then-count
 returns-then-count c =
